@@ -5,3 +5,12 @@ pub mod Form1
 pub mod Lowest
 pub mod Shown
 pub mod Walk
+pub mod FindLaws
+pub mod Test
+pub mod KnownLaws
+pub mod Search
+pub mod Decide
+pub mod GuardLaws
+pub mod DangerLaws
+pub mod LowestLaws
+pub mod RuleLaws
