@@ -14,3 +14,6 @@ pub mod GuardLaws
 pub mod DangerLaws
 pub mod LowestLaws
 pub mod RuleLaws
+pub mod DistinctLaws
+pub mod SearchLaws
+pub mod ShownLaws
