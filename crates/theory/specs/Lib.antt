@@ -17,3 +17,9 @@ pub mod RuleLaws
 pub mod DistinctLaws
 pub mod SearchLaws
 pub mod ShownLaws
+pub mod Reach
+pub mod ReachLaws
+pub mod WalkLaws
+pub mod Lines
+pub mod RobustLaws
+pub mod Cases

@@ -1,14 +1,21 @@
 -- Lists of levels, the lowest levels and the number asked (document 01, "Lowest levels and the number asked"), over any verdict on lists of levels.
 -- The levels offered are 0 to top: top is 2 (SSI), or 1 (SI) for a server without SSI (document 02, C-13).
 use mathlib.Core.Path.{_≡_}
+use mathlib.Core.Logic.{_↔_}
 use mathlib.Core.Bool.{Bool, true, false, cond}
 use mathlib.Core.List.{List, [], _∷_}
 use Prim.Native.Nat.{ℕ, zero, suc, _+_, _≤_, _<_, min}
+use lib.Dec.{T}
 use lib.ListN.{length, getD, set, replicate}
+use Rattle.theory.specs.Danger.{Rule, Jobs, Guard, Robust}
 
 -- the level of job j
 abbrev pub level : List ℕ → ℕ → ℕ
 level ls j = getD ls j 0
+
+-- the sheet is robust against a list of levels
+abbrev pub RobustBy : (r : Rule) (g : Guard r) → Jobs r → List ℕ → Type 0
+RobustBy r g js ls = Robust r g js (level ls)
 
 -- n levels, none above top
 pub record Levels (n top : ℕ) (ls : List ℕ) : Type 0 where
@@ -53,6 +60,10 @@ module _ (ok? : List ℕ → Bool) where
 
   abbrev pub asked : ℕ → ℕ → ℕ
   asked n top = judgedFrom top (replicate n top) 0 n
+
+-- The number asked is k: whoever gives the verdicts, if they are right.
+abbrev pub Asked : (n top : ℕ) (Good : List ℕ → Type 0) → ℕ → Type 0
+Asked n top Good k = (ok? : List ℕ → Bool) → ((ls : List ℕ) → T (ok? ls) ↔ Good ls) → asked ok? n top ≡ k
 
 -- how many jobs are above RC
 abbrev pub above : List ℕ → ℕ
