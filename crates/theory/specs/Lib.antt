@@ -23,3 +23,7 @@ pub mod WalkLaws
 pub mod Lines
 pub mod RobustLaws
 pub mod Cases
+pub mod PlaceLaws
+pub mod Form1Laws
+pub mod Base
+pub mod Api
