@@ -6,7 +6,7 @@ use Prim.Native.Nat.{ℕ, zero, suc, _<_}
 use native.Mathlib.Omega.{arith}
 use lib.Dec.{T, ltb, eqb, ltb→lt, lt→ltb}
 use lib.ListN.{length, getD, take, drop}
-use Rattle.theory.specs.Find.{some?, every?}
+use Rattle.theory.specs.Find.{some?, every?, meet?}
 use Rattle.theory.specs.FindLaws.{and-left, and-right, and-both, nor-left, nor-right, nor-both, differ, unequal}
 use Rattle.theory.specs.Danger.{Rule, Jobs, job, Split, Chain, Guard, Danger, last, distinct?}
 
@@ -25,6 +25,9 @@ op-known p [] zero h = absurd h
 op-known p [] (suc b) h = absurd h
 op-known p (x ∷ os) zero h = omega arith
 op-known p (x ∷ os) (suc b) h = let k = op-known p os b h in omega arith
+
+pub alone-known : {A : Type 0} (p : A → A → Bool) (os ys : List A) (b : ℕ) → T (meet? p (take 1 (drop b os)) ys) → b < length os
+alone-known p os ys b = op-known (λ x. some? (p x) ys) os b
 
 -- a job with an operation is one of the sheet's
 pub job-known : {A : Type 0} (js : List (List A)) (t b : ℕ) → b < length (getD js t []) → t < length js
@@ -57,7 +60,7 @@ alone-chain r js t1 t2 k ne = record {
 
 module _ (r : Rule) (g : Guard r) (js : Jobs r) {lv : ℕ → ℕ} {t1 b1 t2 tm : ℕ} (d : Danger r g js lv t1 b1 t2 tm) where
   pub b1-known : b1 < length (job r js t1)
-  b1-known = op-known (λ x. some? (r .rw x) (job r js t2)) (job r js t1) b1 (d .split .four)
+  b1-known = search (alone-known, d .split .four)
 
   pub t1-known : t1 < length js
   t1-known = job-known js t1 b1 b1-known
