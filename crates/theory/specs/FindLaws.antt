@@ -1,9 +1,9 @@
 -- Laws of the tests over lists.
-use mathlib.Core.Path.{_≡_, refl}
+use mathlib.Core.Path.{_≡_}
 use mathlib.Core.Logic.{_⊎_, inl, inr}
 use mathlib.Core.Bool.{Bool, true, false, _||_, _&&_, not}
 use mathlib.Core.List.{List, [], _∷_}
-use Prim.Native.Nat.{ℕ, zero, suc, _+_, _≤_, _<_}
+use Prim.Native.Nat.{ℕ, zero, suc, _<_}
 use native.Mathlib.Omega.{arith}
 use lib.Dec.{T, eqb, eqb→eq, eqb-refl, T-not, not-T}
 use lib.ListN.{length, getD, take, drop}
@@ -116,17 +116,6 @@ every-both p q s f [] a b = tt
 every-both p q s f (x ∷ xs) a b =
     and-both (s x) (every? s xs) (f x (and-left (p x) (every? p xs) a) (and-left (q x) (every? q xs) b))
     (every-both p q s f xs (and-right (p x) (every? p xs) a) (and-right (q x) (every? q xs) b))
-
-module _ {A : Type 0} (p : A → A → Bool) where
-  -- two that stand in the relation have their places
-  pub meet-out : (d : A) (xs ys : List A) → T (meet? p xs ys) → (i : ℕ) × (j : ℕ) × (i < length xs) × (j < length ys) × T (p (getD xs i d) (getD ys j d))
-  meet-out d xs ys t =
-      let a = some-out (λ x. some? (p x) ys) d xs t in
-      let b = some-out (p (getD xs (a .0) d)) d ys (a .2) in
-      (a .0, b .0, a .1, b .1, b .2)
-
-  pub meet-in : (d : A) (xs ys : List A) (i j : ℕ) → i < length xs → j < length ys → T (p (getD xs i d) (getD ys j d)) → T (meet? p xs ys)
-  meet-in d xs ys i j h k t = some-in (λ x. some? (p x) ys) d xs i h (some-in (p (getD xs i d)) d ys j k t)
 
 -- the second list first, by a relation that holds the other way round
 pub meet-swap : {A : Type 0} (p q : A → A → Bool) → ((x y : A) → T (p x y) → T (q y x)) → (xs ys : List A) → T (meet? p xs ys) → T (meet? q ys xs)

@@ -1,17 +1,16 @@
 -- Law 7: a chain exists exactly if Tm is reached from T2 through jobs that do not conflict with T1; and the lowest of the shortest paths is the chain shown.
 use mathlib.Core.Path.{_≡_, refl, sym, ap, _∙_}
 use mathlib.Core.Logic.{_⊎_, inl, inr, _↔_}
-use mathlib.Core.Bool.{Bool, true, false, _||_, not}
+use mathlib.Core.Bool.{false, not}
 use mathlib.Core.List.{List, [], _∷_}
-use Prim.Native.Nat.{ℕ, zero, suc, _+_, _≤_, _<_}
+use Prim.Native.Nat.{ℕ, zero, suc, _≤_, _<_}
 use native.Mathlib.Omega.{arith}
-use native.Mathlib.Decide.{ℕ-discrete, decLt}
-use lib.Dec.{T, ltb, eqb, ltb→lt, lt→ltb, eqb→eq, eqb-refl, T-not}
+use native.Mathlib.Decide.{decLt}
+use lib.Dec.{T, ltb, eqb, ltb→lt, lt→ltb, eqb→eq}
 use lib.ListN.{length}
 use Rattle.theory.specs.Find.{some?, every?}
-use Rattle.theory.specs.FindLaws.{passes, or-cases, and-left, and-right, and-both, nor-left, nor-right, nor-both, meet-out, differ, unequal}
-use Rattle.theory.specs.Danger.{Rule, Jobs, clash, job, conflict?, free?, linked?, distinct?, last, inner, Chain}
-use Rattle.theory.specs.KnownLaws.{job-known, first-known, last-known, first-apart, last-apart}
+use Rattle.theory.specs.FindLaws.{passes, or-cases, and-left, and-right, and-both, nor-left, nor-right, nor-both, differ, unequal}
+use Rattle.theory.specs.Danger.{Rule, Jobs, conflict?, free?, linked?, distinct?, last, inner, Chain}
 use Rattle.theory.specs.DistinctLaws.{pigeons}
 use Rattle.theory.specs.Shown.{Before, Sooner, ShownJobs}
 use Rattle.theory.specs.Reach.{Through, Links, Best, Passes, Path}

@@ -8,7 +8,7 @@ unfoldable pub use Rattle.theory.specs.Lowest.{settle, judged, settleFro
 pub use Rattle.theory.specs.Shown.{Before, Sooner, ShownJobs, LowestPair, PairAt, Leaves, Returns, Onward, Pairs, Shown}
 pub use Rattle.theory.specs.Walk.{Four, row, zeros, fromOne, Answer, found, end, Names, Next, Walks, Whole}
 pub use Rattle.theory.specs.Reach.{Through, Links, Best, Passes, Path}
-pub use Rattle.theory.specs.Base.{Chain₁, Robust₁, Lowest₁, Asked₁, ShownJobs₁, Split₁, Missed₁, Danger₁, Names₁, Walks₁, Shown₁, one-answer₁, walk-whole₁, shown₁, one-shown₁, raise₁, all-ssi₁, lowest₁, one-lowest₁, robust-iff₁, robust-alone₁, found-alone₁, number-asked₁, one-asked₁, asked-within₁}
+pub use Rattle.theory.specs.Planner.{Chain₁, Robust₁, Lowest₁, Asked₁, ShownJobs₁, Split₁, Missed₁, Danger₁, Names₁, Walks₁, Shown₁, one-answer₁, walk-whole₁, shown₁, one-shown₁, raise₁, all-ssi₁, lowest₁, one-lowest₁, robust-iff₁, robust-alone₁, found-alone₁, number-asked₁, one-asked₁, asked-within₁}
 pub use Rattle.theory.specs.KnownLaws.{op-known, job-known, first-known, last-known, first-apart, last-apart, alone-chain, b1-known, t1-known, t2-known, tm-known, t2-apart, tm-apart}
 pub use Rattle.theory.specs.PlaceLaws.{Part, part-whole, part-prefix, part-postfix, part-alone, Met, met}
 pub use Rattle.theory.specs.Form1Laws.{kinds-out, kinds-in, conflict-both, WritesOnce, only-write}
