@@ -1,0 +1,31 @@
+//! Cases for the lowest levels: answer buffers of every length from 0 to 40, with a pattern.
+
+use super::known;
+use crate::questions::Question;
+
+pub fn cases() -> Vec<Question> {
+    let mut sheets: Vec<Vec<u8>> = known::small().iter().map(|sheet| sheet.bytes()).collect();
+    sheets.extend([known::many_short().bytes(), known::ring().bytes()]);
+    let mut wrong = known::example().bytes();
+    wrong[15] = 0;
+    sheets.push(wrong);
+    let mut cases = Vec::new();
+    for sheet in sheets {
+        for length in 0..=40 {
+            cases.push(Question::Lowest { sheet: sheet.clone(), buffer: pattern(length) });
+        }
+    }
+    for sheet in [known::longest(), known::most_dangers(), known::ladder()] {
+        for length in [31, 32, 33] {
+            cases.push(Question::Lowest { sheet: sheet.bytes(), buffer: pattern(length) });
+        }
+    }
+    cases.push(Question::Lowest { sheet: known::example().bytes(), buffer: pattern(4096) });
+    cases.push(Question::Lowest { sheet: vec![0xAA; 4096], buffer: pattern(4096) });
+    cases
+}
+
+/// Bytes of which none is a level and neighbours differ.
+fn pattern(length: usize) -> Vec<u8> {
+    (0..length).map(|index| 0xA0 + (index * 7 % 80) as u8).collect()
+}
