@@ -4,18 +4,16 @@
 use crate::sheet::{Job, Kind, Level, Operation, Sheet, LEVELS};
 
 pub fn show(sheet: &Sheet) -> String {
-    let levels: String = sheet.jobs.iter().map(|job| format!("{} ", job.level.name())).collect();
-    let jobs: Vec<String> = sheet.jobs.iter().map(|job| texts(&job.operations)).collect();
-    let mut text = format!("{levels}: {}", jobs.join(" | "));
-    if sheet.objects != needed(&sheet.jobs) {
-        text += &format!(" : objects {}", sheet.objects);
+    let mut words: Vec<String> = sheet.jobs.iter().map(|job| job.level.name().to_string()).collect();
+    words.push(":".to_string());
+    for (index, job) in sheet.jobs.iter().enumerate() {
+        words.extend((index > 0).then(|| "|".to_string()));
+        words.extend(job.operations.iter().map(|operation| operation.text()));
     }
-    text.trim_end().to_string()
-}
-
-fn texts(operations: &[Operation]) -> String {
-    let texts: Vec<String> = operations.iter().map(|operation| operation.text()).collect();
-    texts.join(" ")
+    if sheet.objects != needed(&sheet.jobs) {
+        words.push(format!(": objects {}", sheet.objects));
+    }
+    words.join(" ")
 }
 
 /// The fewest objects that these jobs can be declared with.
