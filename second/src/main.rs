@@ -7,15 +7,16 @@ use std::io::{Read, Write};
 use std::process::ExitCode;
 
 const USAGE: &str = "\
-second stored KINDS                 the stream of questions that is stored, as far as it has these kinds (as 1,2,3,4)
-second questions SEED COUNT KINDS   a stream of so many random questions
-second broken FOLDER                streams that are cut or malformed, into files
-second answers < stream             the lines that are due
-second survey < sheet               what `survey` prints
-second make 'RC SI : R0 W1 | R1 W0' the sheet's bytes
-second show < sheet                 the sheet as people write it
-second most                         the sheet with the most dangers
-second oracle [--fast] QUESTION ..  one question about the sheet, in the bench's words";
+second stored [KINDS]                 the stream of questions that is stored; KINDS as 1,2,3,4
+second questions SEED COUNT [KINDS]   a stream of so many random questions
+second broken FOLDER [KINDS]          streams that are cut or malformed, into files
+second answers < stream               the lines that are due
+second question N < stream            the question of that number, readable
+second survey < sheet                 what `survey` prints
+second make 'RC SI : R0 W1 | R1 W0'   the sheet's bytes
+second show < sheet                   the sheet as people write it
+second most                           the sheet with the most dangers
+second oracle [--fast] QUESTION ..    one question about the sheet, in the bench's words";
 
 fn main() -> ExitCode {
     let words: Vec<String> = std::env::args().skip(1).collect();
@@ -35,13 +36,11 @@ fn main() -> ExitCode {
 fn answer(words: &[String]) -> Result<Vec<u8>, String> {
     let plain: Vec<&str> = words.iter().map(String::as_str).collect();
     match plain.as_slice() {
-        ["stored", kinds] => Ok(stream::write(&cases::stored(&parse_kinds(kinds)?))),
-        ["questions", seed, count, kinds] => {
-            let questions = cases::random(number(seed)?, number(count)? as usize, &parse_kinds(kinds)?);
-            Ok(stream::write(&questions))
-        }
-        ["broken", folder] => write_broken(folder).map(|()| Vec::new()),
+        ["stored", kinds @ ..] => Ok(stream::write(&cases::stored(&parse_kinds(kinds)?))),
+        ["questions", seed, count, kinds @ ..] => random_stream(seed, count, &parse_kinds(kinds)?),
+        ["broken", folder, kinds @ ..] => write_broken(folder, &parse_kinds(kinds)?),
         ["answers"] => Ok(stream::answers(&input()?).into_bytes()),
+        ["question", number] => Ok(stream::nth(&input()?, parse_number(number)?).into_bytes()),
         ["survey"] => {
             let bytes = input()?;
             Ok(survey::survey(&bytes[..bytes.len().min(survey::MOST_BYTES)]).into_bytes())
@@ -57,6 +56,14 @@ fn answer(words: &[String]) -> Result<Vec<u8>, String> {
     }
 }
 
+fn random_stream(seed: &str, count: &str, kinds: &[u8]) -> Result<Vec<u8>, String> {
+    let count = parse_number(count)?;
+    if count > stream::MOST_QUESTIONS {
+        return Err(format!("a stream has at most {} questions", stream::MOST_QUESTIONS));
+    }
+    Ok(stream::write(&cases::random(parse_number(seed)? as u64, count, kinds)))
+}
+
 /// A sheet that is read, or the reason why the text makes none.
 fn make(text: &str) -> Result<Vec<u8>, String> {
     let bytes = parse(text)?.bytes();
@@ -66,21 +73,26 @@ fn make(text: &str) -> Result<Vec<u8>, String> {
     }
 }
 
-fn write_broken(folder: &str) -> Result<(), String> {
-    for (name, bytes) in cases::broken_streams() {
+fn write_broken(folder: &str, kinds: &[u8]) -> Result<Vec<u8>, String> {
+    for (name, bytes) in cases::broken_streams(kinds) {
         let path = format!("{folder}/{name}");
         std::fs::write(&path, bytes).map_err(|error| format!("{path}: {error}"))?;
     }
-    Ok(())
+    Ok(Vec::new())
 }
 
-fn parse_kinds(text: &str) -> Result<Vec<u8>, String> {
+/// A list of kinds, or those that `replies` answers if none is given.
+fn parse_kinds(words: &[&str]) -> Result<Vec<u8>, String> {
     let kind = |word: &str| word.parse().ok().filter(|kind| (1..=4).contains(kind));
-    let kinds: Option<Vec<u8>> = text.split(',').map(kind).collect();
-    kinds.ok_or(format!("no list of kinds `{text}`"))
+    let kinds: Option<Vec<u8>> = match words {
+        [] => Some(cases::KINDS.to_vec()),
+        [list] => list.split(',').map(kind).collect(),
+        _ => None,
+    };
+    kinds.ok_or(format!("no list of kinds: {}", words.join(" ")))
 }
 
-fn number(word: &str) -> Result<u64, String> {
+fn parse_number(word: &str) -> Result<usize, String> {
     word.parse().map_err(|_| format!("no number `{word}`"))
 }
 

@@ -27,6 +27,19 @@ fn write_question(question: &Question, stream: &mut Vec<u8>) {
     stream.extend(parts.concat());
 }
 
+/// The question of that number in words, for a reader who looks for a difference.
+pub fn nth(stream: &[u8], number: usize) -> String {
+    let mut left = stream;
+    let mut question = take(&mut left, 4).map(|_| None);
+    for _ in 0..number {
+        question = question.and_then(|_| read_question(&mut left).map(Some));
+    }
+    match question {
+        Ok(Some(question)) => format!("{question:02x?}\n"),
+        _ => format!("no question {number}\n"),
+    }
+}
+
 /// What ends the answers before their time.
 #[derive(Clone, Copy, Debug)]
 enum Fault {

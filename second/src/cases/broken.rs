@@ -1,41 +1,46 @@
-//! Streams that are cut or malformed, each in one of the ways that docs/REPLIES.md lists.
+//! Streams that are cut or malformed, each in one of the ways that docs/REPLIES.md lists, and whole ones beside them.
 
 use super::known;
 use crate::questions::Question;
 use crate::stream::write;
 
-/// Each stream with a name.
-pub fn broken_streams() -> Vec<(String, Vec<u8>)> {
-    let good = write(&[read(), read()]);
-    let mut streams: Vec<Vec<u8>> = (0..good.len()).map(|length| good[..length].to_vec()).collect();
+/// The streams for questions of these kinds, each with a name.
+pub fn broken_streams(kinds: &[u8]) -> Vec<(String, Vec<u8>)> {
+    let good = write(&kinds.iter().map(|kind| question(*kind)).collect::<Vec<_>>());
+    let mut streams: Vec<Vec<u8>> = (0..=good.len()).map(|length| good[..length].to_vec()).collect();
     streams.push([good.as_slice(), &[1]].concat());
-    streams.extend([0, 1, 2, 99_999, 100_000, 100_001, 0x0100_0000, u32::MAX].map(|count| counted(&good, count)));
-    streams.extend([0, 9, 255].map(|kind| with_byte(&good, 4, kind)));
-    streams.extend([[0x10, 0x00], [0x10, 0x01], [0xFF, 0xFF]].map(|length| with_length(&good, length)));
-    streams.push(longest_part());
+    let counts = [0, 1, 5, 99_999, 100_000, 100_001, 0x0100_0000, u32::MAX];
+    streams.extend(counts.map(|count| changed(&good, 0, &count.to_be_bytes())));
+    streams.extend([0, 5, 255].map(|kind| changed(&good, 4, &[kind])));
+    for kind in kinds {
+        streams.extend(wrong_lengths(*kind));
+    }
     let name = |(number, stream)| (format!("{number:03}"), stream);
     streams.into_iter().enumerate().map(name).collect()
 }
 
-fn read() -> Question {
-    Question::Read { sheet: known::sheet("SSI : R1 W0").bytes() }
+fn question(kind: u8) -> Question {
+    let sheet = known::sheet("SSI : R1 W0").bytes();
+    let levels = vec![1];
+    match kind {
+        1 => Question::Read { sheet },
+        2 => Question::Judge { sheet, levels },
+        3 => Question::Next { sheet, levels, above: [1, 1, 1, 1] },
+        _ => Question::Lowest { sheet, buffer: vec![0xEE; 2] },
+    }
 }
 
-fn counted(good: &[u8], count: u32) -> Vec<u8> {
-    [&count.to_be_bytes(), &good[4..]].concat()
-}
-
-fn with_byte(good: &[u8], place: usize, byte: u8) -> Vec<u8> {
+fn changed(good: &[u8], place: usize, new: &[u8]) -> Vec<u8> {
     let mut stream = good.to_vec();
-    stream[place] = byte;
+    stream[place..place + new.len()].copy_from_slice(new);
     stream
 }
 
-fn with_length(good: &[u8], length: [u8; 2]) -> Vec<u8> {
-    with_byte(&with_byte(good, 5, length[0]), 6, length[1])
-}
-
-/// Parts of 4,096 bytes are whole.
-fn longest_part() -> Vec<u8> {
-    write(&[Question::Read { sheet: vec![1; 4096] }, read()])
+/// One question with each of its lengths in turn at and about its bounds, before very many bytes.
+fn wrong_lengths(kind: u8) -> Vec<Vec<u8>> {
+    let good = [write(&[question(kind)]), vec![1; 3 * 4096]].concat();
+    let parts = [1, 2, 3, 2][usize::from(kind) - 1];
+    let lengths = [0, 3, 4, 5, 4095, 4096, 4097, 0xFFFF_u16];
+    let all = (0..parts).flat_map(|part| lengths.map(|length| (part, length)));
+    all.map(|(part, length)| changed(&good, 5 + 2 * part, &length.to_be_bytes())).collect()
 }
