@@ -1,6 +1,11 @@
 pub mod Step
 pub mod Sheet
 pub mod Answer
+pub mod Jobs
+pub mod ReadTable
 pub mod StepLaws
 pub mod Filled
 pub mod SheetLaws
+pub mod JobsLaws
+pub mod ReadLaws
+pub mod AnswerLaws

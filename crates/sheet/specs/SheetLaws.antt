@@ -2,18 +2,17 @@
 -- Assumes nothing.
 use Prim.Native.Nat.{ℕ, zero, suc, _+_, _*_, _-_, _≤_, _<_}
 use mathlib.Core.Path.{_≡_, refl, sym, ap, _∙_}
-use mathlib.Core.Bool.{Bool, true, false, not, _||_, _&&_}
+use mathlib.Core.Bool.{Bool, true, false, _||_, _&&_}
 use mathlib.Core.List.{List}
 use mathlib.Core.Logic.{⊎-elim}
 use native.Mathlib.Nat.{eq-or-lt-of-le}
 use native.Mathlib.Omega.{arith}
 use lib.ListN.{length, getD, set}
-use lib.Dec.{ltb, leb, eqb}
+use lib.Dec.{ltb, eqb}
 use borrow.Author.Tests.{ltb-false, leb-false, not-false, eqb-true, eq-eqb}
-use Rattle.sheet.specs.Step.{Step, ok, fault, refuse, next}
-use Rattle.sheet.specs.StepLaws.{Ends, ends-ok, ends-refuse, ends-is, ends-at, ends-next, or-false}
+use Rattle.sheet.specs.StepLaws.{Ends, ends-ok, ends-refuse, ends-next, or-false}
 use Rattle.sheet.specs.Filled.{Filled, filled-none, filled-more}
-use Rattle.sheet.specs.Sheet.{byteAt, wordAt, outsideOf, recordAt, Head, headAt, Cells, seen, operationAt, operationsAt, Rows, jobAt, jobsAt, none, sheetOf}
+use Rattle.sheet.specs.Sheet.{byteAt, wordAt, outsideOf, recordAt, Head, headAt, Cells, seen, operationAt, operationsAt, Rows, jobAt}
 
 pub outside-false : (least most x : ℕ) → outsideOf least most x ≡ false → (least ≤ x) × (x ≤ most)
 outside-false least most x e =
@@ -154,7 +153,7 @@ pub record OperationsRead (s : List ℕ) (objects base from : ℕ) (kind object 
       → byteAt s (from + 3 * o) ≡ byteAt s (from + 3 * p) → wordAt s (from + 3 * o + 1) ≡ wordAt s (from + 3 * p + 1) → ⊥
 
 -- a fact of the numbers below n that holds at n too holds of those below n + 1
-one-more : (P : ℕ → Type 0) (n : ℕ) → ((o : ℕ) → o < n → P o) → P n → (o : ℕ) → o < n + 1 → P o
+pub one-more : (P : ℕ → Type 0) (n : ℕ) → ((o : ℕ) → o < n → P o) → P n → (o : ℕ) → o < n + 1 → P o
 one-more P n h k o b = ⊎-elim (λ (i : o ≡ n). rw i k) (λ (i : o < n). h o i) (eq-or-lt-of-le (omega arith))
 
 module _ (s : List ℕ) (objects base from : ℕ) (kind object : List ℕ) where
@@ -167,8 +166,8 @@ module _ (s : List ℕ) (objects base from : ℕ) (kind object : List ℕ) where
       let b = ap (λ p. wordAt s (p + 1)) (h .place) in
       record {
         place = omega (arith, h .place, r .place);
-        kind-is = rw (r .kind-is) (filled-more kind (u .kind) base n _ _ a (h .kind-is));
-        object-is = rw (r .object-is) (filled-more object (u .object) base n _ _ b (h .object-is));
+        kind-is = rw (r .kind-is) (filled-more kind (u .kind) base n _ _ _ refl a (h .kind-is));
+        object-is = rw (r .object-is) (filled-more object (u .object) base n _ _ _ refl b (h .object-is));
         kind-in = one-more (λ o. (1 ≤ byteAt s (from + 3 * o)) × (byteAt s (from + 3 * o) ≤ 2)) n (h .kind-in) (rw a at (r .kind-in));
         object-in = one-more (λ o. wordAt s (from + 3 * o + 1) < objects) n (h .object-in) (rw b at (r .object-in));
         once = λ o p d l i j e f. ⊎-elim
@@ -233,11 +232,3 @@ job-ends s objects j t Q h q =
       count-in = few;
       operations = r;
     })
-
--- the record after the jobs begins within the sheet
-pub jobs-end-within : (s : List ℕ) (objects left j : ℕ) (t : Rows) → t .at ≤ length s → Ends (λ u. u .at ≤ length s) (λ p. Unit {0}) (jobsAt s objects left j t)
-unfolding jobsAt
-jobs-end-within s objects zero j t h = ends-ok (λ u. u .at ≤ length s) (λ p. Unit {0}) t h
-jobs-end-within s objects (suc left) j t h =
-    ends-next (λ u. u .at ≤ length s) (λ p. Unit {0}) (JobRead s objects j t) _ _ (job-ends s objects j t (λ p. Unit {0}) h (λ p x y z. tt))
-    λ u r. jobs-end-within s objects left (j + 1) u (r .within)

@@ -3,7 +3,8 @@ use denote.Ref.{now}
 use mathlib.Core.Path.{_≡_, sym, _∙_}
 use mathlib.Core.Bool.{Bool, true, false}
 use Rattle.sheet.specs.Sheet.{byteAt, outsideOf}
-use Rattle.sheet.proofs.Laws.{cells-refused, byte-outside, operation-kind, operation-object, operation-twice, operation-stored}
+use Rattle.sheet.proofs.FoundLaws.{refused-is, byte-outside}
+use Rattle.sheet.proofs.OperationLaws.{operation-kind, operation-object, operation-twice, operation-stored}
 use Rattle.sheet.proofs.operations.operation.Statement.{statement}
 use Rattle.sheet.proofs.operations.operation.Tie as tie
 
@@ -15,19 +16,19 @@ module _ (c : tie.After-outside) (v : Bool) where
 kind : tie.Need-returns
 kind c =
     let o = c .before .before in
-    cells-refused _ _ _ _ _ (c .refuse .ensures)
+    refused-is _ _ _ _ (c .refuse .ensures)
     (operation-kind _ _ _ _ _ (kind-is o true (c .before .if1 .taken)))
 
 object : tie.Need-returns-2
 object c =
     let w = c .before .before in
-    cells-refused _ _ _ _ _ (c .refuse2 .ensures)
+    refused-is _ _ _ _ (c .refuse2 .ensures)
     (operation-object _ _ _ _ _ (kind-is (w .before .before) false (w .before .if1 .left)) _ (w .word .ensures .0) (c .before .if2 .taken))
 
 twice : tie.Need-returns-3
 twice c =
     let w = c .before .before .before .before .before .before in
-    cells-refused _ _ _ _ _ (c .refuse3 .ensures)
+    refused-is _ _ _ _ (c .refuse3 .ensures)
     (operation-twice _ _ _ _ _ (kind-is (w .before .before) false (w .before .if1 .left)) _ (w .word .ensures .0) (c .before .before .before .before .before .if2 .left)
     (sym (c .before .before .is-seen .ensures) ∙ c .before .if3 .taken))
 

@@ -1,9 +1,9 @@
-use Prim.Native.Nat.{ℕ, _+_, _*_, _-_, _≤_}
+use Prim.Native.Nat.{_+_, _*_, _-_, _≤_}
 use borrow.Author.Needs.{needs}
 use native.Mathlib.Omega.{arith}
-use mathlib.Core.Path.{_≡_, refl, sym, _∙_}
+use mathlib.Core.Path.{_≡_, sym, _∙_}
 use Rattle.sheet.specs.Sheet.{operationsAt}
-use Rattle.sheet.proofs.Laws.{operations-on, operations-place, operations-refused}
+use Rattle.sheet.proofs.OperationLaws.{operations-on, operations-place, operations-refused}
 use Rattle.sheet.proofs.operations.operations.Statement.{statement}
 use Rattle.sheet.proofs.operations.operations.Tie as tie
 
