@@ -1,0 +1,4 @@
+pub mod Spreads
+pub mod Arounds
+pub mod Layers
+pub mod Chains

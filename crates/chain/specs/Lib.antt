@@ -1,0 +1,5 @@
+pub mod Paths
+pub mod PathLaws
+pub mod BestLaws
+pub mod Layers
+pub mod Settled
