@@ -1,0 +1,4 @@
+pub mod SplitLaws
+pub mod RobustLaws
+pub mod HitLaws
+pub mod LowersLaws

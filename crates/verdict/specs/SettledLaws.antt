@@ -1,0 +1,25 @@
+-- The statements of the verdict and of the lowest levels allow one answer each.
+use mathlib.Core.Path.{_≡_, refl, sym, ap₂, _∙_}
+use mathlib.Core.Bool.{Bool, true, false}
+use mathlib.Core.List.{List, _++_}
+use Prim.Native.Nat.{ℕ}
+use lib.ListN.{length, take, drop, take-append-drop}
+use Rattle.theory.specs.Danger.{Rule, Jobs}
+use Rattle.theory.specs.Guards.{Paper}
+use Rattle.theory.specs.GuardLaws.{paper-lawful}
+use Rattle.theory.specs.RobustLaws.{lowest-once, one-asked}
+use Rattle.verdict.specs.Verdict.{Tells, Lowers}
+
+pub one-verdict : {P : Type 0} (a b : Bool) → Tells P a → Tells P b → a ≡ b
+one-verdict true true s t = refl
+one-verdict true false s t = absurd (t .no refl (s .yes refl))
+one-verdict false true s t = absurd (s .no refl (t .yes refl))
+one-verdict false false s t = refl
+
+pub one-lowering : (r : Rule) (js : Jobs r) (before xs ys : List ℕ) (m n : ℕ) → Lowers r js before xs m → Lowers r js before ys n → (xs ≡ ys) × (m ≡ n)
+one-lowering r js before xs ys m n a b = (
+  sym (take-append-drop (length js) xs)
+      ∙ ap₂ _++_ (lowest-once r (Paper r) (paper-lawful r) js 2 (take (length js) xs) (take (length js) ys) (a .lowest) (b .lowest)) (a .kept ∙ sym (b .kept))
+      ∙ take-append-drop (length js) ys,
+  one-asked r (Paper r) (paper-lawful r) js 2 m n (a .number) (b .number),
+)
