@@ -1,0 +1,4 @@
+pub mod Answers
+pub mod ShownIn
+pub mod Sides
+pub mod Starts
