@@ -1,0 +1,4 @@
+pub mod Checks
+pub mod Questions
+pub mod Stands
+pub mod Settled

@@ -1,0 +1,126 @@
+// The questions that outsiders ask (document 01, "What the planner takes and gives"). None has a `requires`: it refuses.
+pub mod levels;
+pub mod steps;
+mod tables;
+
+use levels::Checked;
+use levels::check_levels;
+use sheet::Reading;
+use sheet::Reason;
+use sheet::Refusal;
+use walk::four::Four;
+ghost use mathlib.Core.Path.{_≡_};
+ghost use Rattle.planner.specs.Questions.{Judged, Walked, NoChain, LowestHanded};
+
+// Whether a sheet is robust against a list of levels.
+pub enum Verdict {
+    Robust,
+    Dangerous,
+    Refused(Refusal),
+}
+
+// A step of the walk.
+pub enum Walk {
+    Found(Four),
+    End,
+    Refused(Refusal),
+}
+
+// The chain shown with a danger stands beside the enum, since an enum holds no array: the number of its jobs, the jobs T2 .. Tm, and
+// the pairs, the earlier job's operation first; zeros behind them, and nothing but zeros where no danger is found.
+pub struct WalkAnswer {
+    pub walk: Walk,
+    pub length: usize,
+    pub chain: [u8; 32],
+    pub pairs: [u8; 64],
+}
+
+// The number asked, the lowest levels being in the answer buffer.
+pub enum Handed {
+    Asked(u32),
+    Refused(Refusal),
+}
+
+// Is the sheet robust against the levels?
+pub fn judge(sheet: &[u8], levels: &[u8]) -> Verdict
+    ensures { λ v. ⌜ Judged (now (sheet .entry)) (now (levels .entry)) v ⌝ }
+{
+    let answer = sheet::read_sheet(sheet);
+    let reading = answer.reading;
+    if let Reading::Refused(r) = reading {
+        return Verdict::Refused(r);
+    }
+    let table = answer.table;
+    let checked = check_levels(table.jobs, levels);
+    if let Checked::Refused(r) = checked {
+        return Verdict::Refused(r);
+    }
+    let robust = tables::is_robust(
+        table.jobs,
+        table.objects,
+        &table.kind,
+        &table.object,
+        levels,
+    );
+    if robust {
+        Verdict::Robust
+    } else {
+        Verdict::Dangerous
+    }
+}
+
+// No danger is shown.
+fn nothing_shown(walk: Walk) -> WalkAnswer
+    ensures { λ a. ⌜ (a .walk ≡ walk) × NoChain a ⌝ }
+{
+    WalkAnswer {
+        walk: walk,
+        length: 0,
+        chain: [0u8; 32],
+        pairs: [0u8; 64],
+    }
+}
+
+// Which is the first danger above the four numbers, and its chain?
+pub fn next_danger(sheet: &[u8], levels: &[u8], above: Four) -> WalkAnswer
+    ensures { λ a. ⌜ Walked (now (sheet .entry)) (now (levels .entry)) above a ⌝ }
+{
+    let answer = sheet::read_sheet(sheet);
+    let reading = answer.reading;
+    if let Reading::Refused(r) = reading {
+        return nothing_shown(Walk::Refused(r));
+    }
+    let table = answer.table;
+    let checked = check_levels(table.jobs, levels);
+    if let Checked::Refused(r) = checked {
+        return nothing_shown(Walk::Refused(r));
+    }
+    tables::first_above(
+        table.jobs,
+        table.objects,
+        &table.kind,
+        &table.object,
+        levels,
+        above,
+    )
+}
+
+// Which are the lowest levels, and how many verdicts does the rule ask for?
+pub fn lowest(sheet: &[u8], answer: &mut [u8]) -> Handed
+    ensures { λ a. ⌜ LowestHanded (now (sheet .entry)) (now (answer .entry)) (now (answer .exit)) a ⌝ }
+{
+    let read = sheet::read_sheet(sheet);
+    let reading = read.reading;
+    if let Reading::Refused(r) = reading {
+        return Handed::Refused(r);
+    }
+    let table = read.table;
+    let jobs = table.jobs;
+    if answer.len() < jobs {
+        return Handed::Refused(Refusal {
+            place: 0,
+            reason: Reason::Room,
+        });
+    }
+    Handed::Asked(tables::find_lowest(jobs, table.objects, &table.kind, &table.object, answer))
+}
