@@ -8,15 +8,15 @@ use borrow.Author.Tests.{lt-ltb, le-ltb}
 use lib.ListN.{length}
 use Rattle.sheet.specs.Step.{Step, ok, fault, refuse, next}
 use Rattle.sheet.specs.Sheet.{sheetOf}
-use Rattle.sheet.specs.Answer.{faultOf, readingOf}
+use Rattle.sheet.specs.Answer.{faultOf, Answered}
+use Rattle.sheet.specs.AnswerLaws.{answer-read, answer-table}
 use Rattle.sheet.specs.declared.Reason.the-variants.{Room}
 use Rattle.sheet.specs.declared.Refusal.{Refusal}
-use Rattle.sheet.specs.declared.Reading.{Reading}
+use Rattle.sheet.specs.declared.ReadAnswer.{ReadAnswer}
 use Rattle.sheet.specs.declared.Reading.the-variants as reading
 use Rattle.sheet.specs.declared.Table.{Table}
 use Rattle.sheet.specs.Jobs.{jobsOf}
 use Rattle.sheet.specs.ReadTable.{ReadTable}
-use Rattle.sheet.specs.ReadLaws.{sheet-read}
 use Rattle.theory.specs.Danger.{Jobs}
 use Rattle.theory.specs.Form1.{form1}
 use Rattle.conflicts.specs.Laid.{Laid, Below}
@@ -40,13 +40,6 @@ module _ {A B : Type 0} (R : A → B → Type 0) (x : Step A) where
   pub answers-passed : (a : A) (b : B) → x ≡ ok a → R a b → Answers R x (ok b)
   answers-passed a b e h = rw e h
 
-module _ (s : List ℕ) (g : Reading) (t : Table) (read : readingOf g t ≡ sheetOf s) where
-  pub is-read : g ≡ reading.Sheet → sheetOf s ≡ ok t
-  is-read e = sym read ∙ ap (λ (g : Reading). readingOf g t) e
-
-  pub not-read : (r : Refusal) → g ≡ reading.Refused r → sheetOf s ≡ faultOf r
-  not-read r e = sym read ∙ ap (λ (g : Reading). readingOf g t) e
-
 module _ (s ls : List ℕ) where
   pub levels-sheet : (r : Refusal) → sheetOf s ≡ faultOf r → withLevels s ls ≡ faultOf r
   unfolding withLevels next
@@ -68,12 +61,12 @@ pub record Ready (s ls : List ℕ) (t : Table) : Type 0 where
   pub as-long : length ls ≡ t .jobs
 
 pub ready :
-    (s ls : List ℕ) (g : Reading) (t : Table) → readingOf g t ≡ sheetOf s → g ≡ reading.Sheet
-    → (c : Checked) → checkedOf c ≡ levelsAt (t .jobs) ls → c ≡ checked.Passed → Ready s ls t
-ready s ls g t read e c met f = record {
-  passed = levels-passed s ls t (is-read s g t read e) c met f;
-  known = sheet-read s t (is-read s g t read e) .table;
-  as-long = passed-length (t .jobs) ls (sym (ap checkedOf f) ∙ met);
+    (s ls : List ℕ) (a : ReadAnswer) → Answered s a → a .reading ≡ reading.Sheet
+    → (c : Checked) → checkedOf c ≡ levelsAt (a .table .jobs) ls → c ≡ checked.Passed → Ready s ls (a .table)
+ready s ls a h e c met f = record {
+  passed = levels-passed s ls (a .table) (answer-read s a h e) c met f;
+  known = answer-table s a h;
+  as-long = passed-length (a .table .jobs) ls (sym (ap checkedOf f) ∙ met);
 }
 
 -- the jobs that were read stand in the table's arrays

@@ -50,16 +50,15 @@ pub fn judge(sheet: &[u8], levels: &[u8]) -> Verdict
     if let Reading::Refused(r) = reading {
         return Verdict::Refused(r);
     }
-    let table = answer.table;
-    let checked = check_levels(table.jobs, levels);
+    let checked = check_levels(answer.table.jobs, levels);
     if let Checked::Refused(r) = checked {
         return Verdict::Refused(r);
     }
     let robust = tables::is_robust(
-        table.jobs,
-        table.objects,
-        &table.kind,
-        &table.object,
+        answer.table.jobs,
+        answer.table.objects,
+        &answer.table.kind,
+        &answer.table.object,
         levels,
     );
     if robust {
@@ -90,16 +89,15 @@ pub fn next_danger(sheet: &[u8], levels: &[u8], above: Four) -> WalkAnswer
     if let Reading::Refused(r) = reading {
         return nothing_shown(Walk::Refused(r));
     }
-    let table = answer.table;
-    let checked = check_levels(table.jobs, levels);
+    let checked = check_levels(answer.table.jobs, levels);
     if let Checked::Refused(r) = checked {
         return nothing_shown(Walk::Refused(r));
     }
     tables::first_above(
-        table.jobs,
-        table.objects,
-        &table.kind,
-        &table.object,
+        answer.table.jobs,
+        answer.table.objects,
+        &answer.table.kind,
+        &answer.table.object,
         levels,
         above,
     )
@@ -114,13 +112,18 @@ pub fn lowest(sheet: &[u8], answer: &mut [u8]) -> Handed
     if let Reading::Refused(r) = reading {
         return Handed::Refused(r);
     }
-    let table = read.table;
-    let jobs = table.jobs;
+    let jobs = read.table.jobs;
     if answer.len() < jobs {
         return Handed::Refused(Refusal {
             place: 0,
             reason: Reason::Room,
         });
     }
-    Handed::Asked(tables::find_lowest(jobs, table.objects, &table.kind, &table.object, answer))
+    Handed::Asked(tables::find_lowest(
+        jobs,
+        read.table.objects,
+        &read.table.kind,
+        &read.table.object,
+        answer,
+    ))
 }

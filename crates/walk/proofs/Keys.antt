@@ -19,7 +19,7 @@ three : (a b : ℕ) → (a < b) ⊎ ((a ≡ b) ⊎ (b < a))
 three a b = elim (decLt a b) [ yes h ↦ inl h | no h ↦ inr (elim (decLt b a) [ yes l ↦ inr l | no l ↦ inl (omega (arith, h, l)) ]) ]
 
 -- ---- the order
-module _ (a b c d x y z w : ℕ) (hb : b < 256) (hc : c < 256) (hd : d < 256) (hy : y < 256) (hz : z < 256) (hw : w < 256) where
+module _ (a b c d x y z w : ℕ) (small : (b < 256) × (c < 256) × (d < 256)) (small′ : (y < 256) × (z < 256) × (w < 256)) where
   pub before-key : Before (a ∷ b ∷ c ∷ d ∷ []) (x ∷ y ∷ z ∷ w ∷ []) → key a b c d < key x y z w
   before-key (inl h) = omega arith
   before-key (inr (e, inl h)) = omega arith
@@ -39,17 +39,16 @@ module _ (a b c d x y z w : ℕ) (hb : b < 256) (hc : c < 256) (hd : d < 256) (h
       ))
       (λ m. absurd (omega arith)) s₁) (three a x)
 
--- ---- the start
--- numbers above those given, counted from 0 and not before the start
-module _ (q : Four) (s : Start) (hb : q .b1 < 256) (hc : q .t2 < 256) (hd : q .tm < 256) where
+-- ---- the start, by keys
+module _ (q : Four) (s : Start) (h : (q .b1 < 256) × (q .t2 < 256) × (q .tm < 256)) where
   pub starts : (s .t < 256) × (s .b < 256) × (s .f < 256) × (s .l < 256)
       → ((t b f l : ℕ) → b < 255 → f < 255 → l < 255 → (key (q .t1) (q .b1) (q .t2) (q .tm) < key (suc t) (suc b) (suc f) (suc l)) ↔ (keyAt s ≤ key t b f l))
       → Starts q s
   starts small e = record {
     small = small;
     above = λ t b f l yb yf yl. (
-      λ h. e t b f l yb yf yl .0 (before-key _ _ _ _ _ _ _ _ hb hc hd (omega arith) (omega arith) (omega arith) h),
-      λ h. key-before _ _ _ _ _ _ _ _ hb hc hd (omega arith) (omega arith) (omega arith) (e t b f l yb yf yl .1 h),
+      λ p. e t b f l yb yf yl .0 (before-key _ _ _ _ _ _ _ _ h (omega arith) p),
+      λ p. key-before _ _ _ _ _ _ _ _ h (omega arith) (e t b f l yb yf yl .1 p),
     );
   }
 
@@ -73,10 +72,13 @@ module _ (D : ℕ → ℕ → ℕ → ℕ → Type 0) where
   unfolding Clean
   set-out t b f l h = record { clean = λ t′ b′ f′ l′ d p q. omega arith; rises = omega arith; small = h }
 
-  pub go-on : (i t b f l t′ b′ f′ l′ : ℕ) → Passed i t b f l → Passed (key t b f l) t′ b′ f′ l′ → Passed i t′ b′ f′ l′
+  pub go-on : {i t b f l t′ b′ f′ l′ : ℕ} → Passed i t b f l → Passed (key t b f l) t′ b′ f′ l′ → Passed i t′ b′ f′ l′
   unfolding Clean
-  go-on i t b f l t′ b′ f′ l′ x y = record {
-    clean = λ t″ b″ f″ l″ d p q. elim (decLt (key t″ b″ f″ l″) (key t b f l)) [ yes z ↦ x .clean t″ b″ f″ l″ d p z | no z ↦ y .clean t″ b″ f″ l″ d (omega (arith, z)) q ];
+  go-on {t = t} {b} {f} {l} x y = record {
+    clean = λ t″ b″ f″ l″ d p q. elim (decLt (key t″ b″ f″ l″) (key t b f l)) [
+      | yes z ↦ x .clean t″ b″ f″ l″ d p z
+      | no z ↦ y .clean t″ b″ f″ l″ d (omega (arith, z)) q
+    ];
     rises = omega (arith, x .rises, y .rises);
     small = y .small;
   }
@@ -88,8 +90,10 @@ module _ (D : ℕ → ℕ → ℕ → ℕ → Type 0) where
     -- one more that is no danger
     pub pass-one : l < 32 → ¬ D t b f l → Passed i t b f (l + 1)
     unfolding Clean
-    pass-one hl none = go-on i t b f l t b f (l + 1) x (record {
-      clean = λ t′ b′ f′ l′ d p q. let k = r .known t′ b′ f′ l′ d in none (at-same t b f l t′ b′ f′ l′ (omega arith) (omega arith) (omega arith) (omega arith) d);
+    pass-one hl none = go-on x (record {
+      clean = λ t′ b′ f′ l′ d p q.
+          let k = r .known t′ b′ f′ l′ d in
+          none (at-same t b f l t′ b′ f′ l′ (omega arith) (omega arith) (omega arith) (omega arith) d);
       rises = omega arith;
       small = omega (arith, x .small);
     })
@@ -97,23 +101,27 @@ module _ (D : ℕ → ℕ → ℕ → ℕ → Type 0) where
     -- no danger left with one first job, with one operation, with one split job
     pub pass-first : f < 32 → ((m : ℕ) → l ≤ m → ¬ D t b f m) → Passed i t b (f + 1) 0
     unfolding Clean
-    pass-first hf none = go-on i t b f l t b (f + 1) 0 x (record {
-      clean = λ t′ b′ f′ l′ d p q. let k = r .known t′ b′ f′ l′ d in none l′ (omega arith) (at-same t b f l′ t′ b′ f′ l′ (omega arith) (omega arith) (omega arith) refl d);
+    pass-first hf none = go-on x (record {
+      clean = λ t′ b′ f′ l′ d p q.
+          let k = r .known t′ b′ f′ l′ d in
+          none l′ (omega arith) (at-same t b f l′ t′ b′ f′ l′ (omega arith) (omega arith) (omega arith) refl d);
       rises = omega (arith, x .small);
       small = omega (arith, x .small);
     })
 
     pub pass-operation : b < 16 → ((k m : ℕ) → f ≤ k → ¬ D t b k m) → Passed i t (b + 1) 0 0
     unfolding Clean
-    pass-operation hb none = go-on i t b f l t (b + 1) 0 0 x (record {
-      clean = λ t′ b′ f′ l′ d p q. let k = r .known t′ b′ f′ l′ d in none f′ l′ (omega arith) (at-same t b f′ l′ t′ b′ f′ l′ (omega arith) (omega arith) refl refl d);
+    pass-operation hb none = go-on x (record {
+      clean = λ t′ b′ f′ l′ d p q.
+          let k = r .known t′ b′ f′ l′ d in
+          none f′ l′ (omega arith) (at-same t b f′ l′ t′ b′ f′ l′ (omega arith) (omega arith) refl refl d);
       rises = omega (arith, x .small);
       small = omega (arith, x .small);
     })
 
     pub pass-job : 16 ≤ b → Passed i (t + 1) 0 0 0
     unfolding Clean
-    pass-job over = go-on i t b f l (t + 1) 0 0 0 x (record {
+    pass-job over = go-on x (record {
       clean = λ t′ b′ f′ l′ d p q. let k = r .known t′ b′ f′ l′ d in omega (arith, x .small);
       rises = omega (arith, x .small);
       small = omega arith;
@@ -145,7 +153,7 @@ module _ (r : Rule) (g : Guard r) (js : Jobs r) (lv : ℕ → ℕ) (D : ℕ → 
           let k′ = inside .known t′ b′ f′ l′ (all t′ b′ f′ l′ d′) in
           let from : keyAt s ≤ key t′ b′ f′ l′ = e .above t′ b′ f′ l′ (omega arith) (omega arith) (omega arith) .0 (rw is at up) in
           rw is (elim (three (key t b f l) (key t′ b′ f′ l′)) [
-            | inl low ↦ inr (key-before _ _ _ _ _ _ _ _ (omega arith) (omega arith) (omega arith) (omega arith) (omega arith) (omega arith) (omega arith))
+            | inl low ↦ inr (key-before _ _ _ _ _ _ _ _ (omega arith) (omega arith) (omega arith))
             | inr (inl one) ↦ inl (same t′ b′ f′ l′ (omega arith) (omega arith) (omega arith) (omega arith))
             | inr (inr high) ↦ absurd (x .clean t′ b′ f′ l′ (all t′ b′ f′ l′ d′) from high)
           ])

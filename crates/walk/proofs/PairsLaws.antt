@@ -46,7 +46,8 @@ row-put ps at e l before pairs after full small long front put =
     put
     ∙ ap (λ (r : List ℕ). set (set r (2 * at) (e + 1)) (2 * at + 1) (l + 1)) (front ∙ ap (λ (r : List ℕ). pairRow ps ++ r) (two-on (2 * at) before (omega arith)))
     ∙ set-two (pairRow ps) (2 * at) (e + 1) (l + 1) _ _ _ (row-length ps ∙ ap (λ (x : ℕ). 2 * x) long)
-    ∙ ap (λ (r : List ℕ). pairRow ps ++ r) (ap₂ (λ (x y : ℕ). x ∷ y ∷ drop (suc (suc (2 * at))) before) (add-one e) (add-one l) ∙ ap (λ (x : ℕ). suc e ∷ suc l ∷ drop x before) next)
+    ∙ ap₂ (λ (x y : ℕ). pairRow ps ++ x ∷ y ∷ drop (suc (suc (2 * at))) before) (add-one e) (add-one l)
+    ∙ ap (λ (x : ℕ). pairRow ps ++ suc e ∷ suc l ∷ drop x before) next
     ∙ sym (append-assoc (pairRow ps) (suc e ∷ suc l ∷ []) (drop (2 * (at + 1)) before))
     ∙ ap (λ (r : List ℕ). r ++ drop (2 * (at + 1)) before) (sym (row-more ps (e, l)))
 
@@ -71,6 +72,13 @@ module _ {kind object chain : List ℕ} {level t1 b1 t2 n : ℕ} (w : ToPair kin
     pub whole : w .ps ≡ done ++ todo
     pub row : pairs ≡ pairRow done ++ drop (2 * at) before
 
+  -- job i and those after it are the sheet's
+  abbrev Known : ℕ → List ℕ → Type 0
+  Known i c = T (every? (λ j. ltb j (length (w .js))) (i ∷ c))
+
+  known-small : (i : ℕ) (c : List ℕ) → Known i c → i < 32
+  known-small i c k = omega (arith, w .laid .few, ltb→lt i (length (w .js)) (and-left (ltb i (length (w .js))) (every? (λ j. ltb j (length (w .js))) c) k))
+
   split-known : t1 < length (w .js)
   split-known = t1-known form1 (Paper form1) (w .js) (w .danger)
 
@@ -78,7 +86,8 @@ module _ {kind object chain : List ℕ} {level t1 b1 t2 n : ℕ} (w : ToPair kin
   pub few : n < 32
   few =
       let c = w .shown .jobs .chain in
-      omega (arith, w .count, w .laid .few, pigeons (length (w .js)) (t1 ∷ t2 ∷ w .rest) (c .distinct) (and-both (ltb t1 (length (w .js))) _ (lt→ltb t1 (length (w .js)) split-known) (c .known)))
+      let all : Known t1 (t2 ∷ w .rest) = and-both (ltb t1 (length (w .js))) _ (lt→ltb t1 (length (w .js)) split-known) (c .known) in
+      omega (arith, w .count, w .laid .few, pigeons (length (w .js)) (t1 ∷ t2 ∷ w .rest) (c .distinct) all)
 
   pub several : 2 ≤ 2 * length (w .ps)
   several = omega (arith, pairs-count form1 (w .js) (w .lv) t1 b1 t2 (w .rest) (w .ps) (w .shown .pairs))
@@ -94,7 +103,7 @@ module _ {kind object chain : List ℕ} {level t1 b1 t2 n : ℕ} (w : ToPair kin
   )
 
   pub from-known : {at from : ℕ} {before pairs : List ℕ} → Going at from before pairs → from < 32
-  from-known {from = i} g = omega (arith, w .laid .few, ltb→lt i (length (w .js)) (and-left (ltb i (length (w .js))) (every? (λ j. ltb j (length (w .js))) (g .rest)) (g .known)))
+  from-known {from = i} g = known-small i (g .rest) (g .known)
 
   -- ---- b1 and its partner
   module _ (a : ℕ) (f : Partner (Fits form1 (w .js) 16 t1 t2 b1) a) where
@@ -141,12 +150,12 @@ module _ {kind object chain : List ℕ} {level t1 b1 t2 n : ℕ} (w : ToPair kin
       pub todo : List (ℕ × ℕ)
       pub low : LowestPair (PairAt form1 (w .js) (clash form1) from j) q
       pub onward : Onward form1 (w .js) (w .lv) t1 b1 j rest todo
-      pub known : T (every? (λ i. ltb i (length (w .js))) (j ∷ rest))
+      pub known : Known j rest
       pub ahead : drop at chain ≡ suc j ∷ (map suc rest ++ g .beyond)
       pub left : at + suc (length rest) ≡ n
       pub whole : w .ps ≡ g .done ++ (q ∷ todo)
 
-    link-of : (rest : List ℕ) (todo : List (ℕ × ℕ)) → Onward form1 (w .js) (w .lv) t1 b1 from rest todo → T (every? (λ i. ltb i (length (w .js))) (from ∷ rest))
+    link-of : (rest : List ℕ) (todo : List (ℕ × ℕ)) → Onward form1 (w .js) (w .lv) t1 b1 from rest todo → Known from rest
         → drop at chain ≡ map suc rest ++ g .beyond → at + length rest ≡ n → w .ps ≡ g .done ++ todo → Link
     link-of [] todo o k a l e = absurd (omega arith)
     link-of (j ∷ rest) [] o k a l e = absurd o
@@ -176,11 +185,11 @@ module _ {kind object chain : List ℕ} {level t1 b1 t2 n : ℕ} (w : ToPair kin
       same : link .j ≡ to
       same = omega (arith, job-is, is)
 
-      to-in : T (every? (λ i. ltb i (length (w .js))) (to ∷ link .rest))
+      to-in : Known to (link .rest)
       to-in = rw same at (link .known)
 
       pub to-known : to < 32
-      to-known = omega (arith, w .laid .few, ltb→lt to (length (w .js)) (and-left (ltb to (length (w .js))) (every? (λ i. ltb i (length (w .js))) (link .rest)) to-in))
+      to-known = known-small to (link .rest) to-in
 
       module _ (e l : ℕ) (f : Paired (Fits form1 (w .js) 0 from to) e l) where
         low-to : LowestPair (PairAt form1 (w .js) (clash form1) from to) (link .q)
@@ -208,8 +217,8 @@ module _ {kind object chain : List ℕ} {level t1 b1 t2 n : ℕ} (w : ToPair kin
         }
 
   -- ---- the last job with T1
-  module _ {at from : ℕ} {before pairs : List ℕ} (g : Going at from before pairs) (h : n ≤ at) (any e l : ℕ) (low : level < 1 → any ≡ suc b1) (high : 1 ≤ level → any ≡ 16)
-      (f : Paired (Fits form1 (w .js) any from t1) e l) where
+  module _ {at from : ℕ} {before pairs : List ℕ} (g : Going at from before pairs) (h : n ≤ at) (any e l : ℕ)
+      (low : level < 1 → any ≡ suc b1) (high : 1 ≤ level → any ≡ 16) (f : Paired (Fits form1 (w .js) any from t1) e l) where
     record Back : Type 0 where
       pub q : ℕ × ℕ
       pub lowest : LowestPair (Returns form1 (w .js) (w .lv) t1 b1 from) q

@@ -129,19 +129,22 @@ module _ (s : Tables) where
             (g .between, g .path),
           )
 
-  -- ---- the steps of the four loops
+  -- ---- the steps of the four loops: what is left behind is no danger
   module _ (i t b f l : ℕ) {first last : List ℕ} {shut watch : ℕ} (ready : Ready t first last shut watch) (hb : b < 16)
       (firsts : ℕ) (w : Firsts (s .clash) shut (getD first b 0) (getD last b 0) firsts) where
     pub next-last : (lasts : ℕ) → Lasts (s .clash) shut watch firsts (getD last b 0) f lasts → l < 32 → eqb (bit lasts l) 1 ≡ false
         → Passed DangerAt i t b f l → Passed DangerAt i t b f (l + 1)
-    next-last lasts v hl out x = pass-one DangerAt (s .jobs) inside i t b f l x hl (λ d. eqb-false (bit lasts l) 1 out (last-there t b f l ready hb firsts w lasts v d))
+    next-last lasts v hl out x =
+        pass-one DangerAt (s .jobs) inside i t b f l x hl (λ d. eqb-false (bit lasts l) 1 out (last-there t b f l ready hb firsts w lasts v d))
 
     pub next-first : (lasts end : ℕ) → Lasts (s .clash) shut watch firsts (getD last b 0) f lasts → f < 32 → ((k : ℕ) → bit lasts k ≡ 1 → k < end) → end ≤ l
         → Passed DangerAt i t b f l → Passed DangerAt i t b (f + 1) 0
-    next-first lasts end v hf within over x = pass-first DangerAt (s .jobs) inside i t b f l x hf (λ m h d. omega (arith, within m (last-there t b f m ready hb firsts w lasts v d)))
+    next-first lasts end v hf within over x =
+        pass-first DangerAt (s .jobs) inside i t b f l x hf (λ m h d. omega (arith, within m (last-there t b f m ready hb firsts w lasts v d)))
 
     pub next-operation : (end : ℕ) → ((k : ℕ) → bit firsts k ≡ 1 → k < end) → end ≤ f → Passed DangerAt i t b f l → Passed DangerAt i t (b + 1) 0 0
-    next-operation end within over x = pass-operation DangerAt (s .jobs) inside i t b f l x hb (λ k m h d. omega (arith, within k (first-there t b k m ready hb firsts w d)))
+    next-operation end within over x =
+        pass-operation DangerAt (s .jobs) inside i t b f l x hb (λ k m h d. omega (arith, within k (first-there t b k m ready hb firsts w d)))
 
   pub next-job : (i t b f l : ℕ) → 16 ≤ b → Passed DangerAt i t b f l → Passed DangerAt i (t + 1) 0 0 0
   next-job i t b f l over x = pass-job DangerAt (s .jobs) inside i t b f l x over
@@ -151,7 +154,9 @@ module _ (s : Tables) where
     -- only the levels of the sheet's jobs matter
     under : (A B : ℕ → ℕ) → ((k : ℕ) → k < s .jobs → A k ≡ B k) → (t b f l : ℕ) → Danger form1 (Paper form1) js B t b f l → Danger form1 (Paper form1) js A t b f l
     under A B same t b f l d = paper-same form1 js A B t b f l
-        (same t (omega (arith, t1-known form1 (Paper form1) js d))) (same f (omega (arith, t2-known form1 (Paper form1) js d))) (same l (omega (arith, tm-known form1 (Paper form1) js d))) d
+        (same t (omega (arith, t1-known form1 (Paper form1) js d)))
+        (same f (omega (arith, t2-known form1 (Paper form1) js d)))
+        (same l (omega (arith, tm-known form1 (Paper form1) js d))) d
 
     all : (t b f l : ℕ) → Danger form1 (Paper form1) js (level (s .levels)) t b f l → DangerAt t b f l
     unfolding DangerAt

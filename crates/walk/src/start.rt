@@ -39,12 +39,9 @@ pub fn start_above(given: Four) -> Start
     if given.t2 < 1 {
         return Start { t, b, f: 0, l: 0 };
     }
-    Start {
-        t,
-        b,
-        f: (given.t2 - 1) as u32,
-        l: given.tm as u32,
-    }
+    let f = (given.t2 - 1) as u32;
+    let l = given.tm as u32;
+    Start { t, b, f, l }
 }
 
 // The four numbers of a danger that is counted from 0.

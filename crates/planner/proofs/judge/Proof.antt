@@ -1,46 +1,41 @@
-use mathlib.Core.Path.{_≡_, refl, sym, ap, _∙_}
 use mathlib.Core.Bool.{true, false}
 use borrow.Author.Needs.{needs}
-use Rattle.planner.proofs.AnswerLaws.{answers-refused, answers-passed, is-read, not-read, levels-sheet, levels-refused, ready, read-stands}
+use Rattle.sheet.specs.AnswerLaws.{answer-read, answer-refused}
+use Rattle.planner.proofs.AnswerLaws.{answers-refused, answers-passed, levels-sheet, levels-refused, ready, read-stands}
 use Rattle.planner.proofs.judge.Statement.{statement}
 use Rattle.planner.proofs.judge.Tie as tie
-use Rattle.planner.proofs.judge.Reads as reads
-use Rattle.planner.proofs.judge.Lts as lts
-use Rattle.planner.proofs.levels.check_levels.Reads as check-levels-reads
-use Rattle.planner.proofs.tables.is_robust.Reads as is-robust-reads
-use Rattle.sheet.proofs.read_sheet.Reads as read-sheet-reads
 
 not-a-sheet : tie.Need-returns
 not-a-sheet c =
     let met = c .before .reading .given in
-    answers-refused _ _ (met .0 .0) (levels-sheet _ _ (met .0 .0) (not-read _ _ _ (c .before .before .before .read-sheet .ensures .outcome) (met .0 .0) (met .1)))
+    answers-refused _ _ (met .0 .0) (levels-sheet _ _ (met .0 .0) (answer-refused _ _ (c .before .before .before .read-sheet .ensures) (met .0 .0) (met .1)))
 
 wrong-levels : tie.Need-returns-2
 wrong-levels c =
     let met = c .before .checked .given in
-    let told = c .before .before .before .before .before in
+    let told = c .before .before .before .before in
     answers-refused _ _ (met .0 .0)
-    (levels-refused _ _ _ (is-read _ _ _ (told .before .before .read-sheet .ensures .outcome) (told .enum-told .given .1))
+    (levels-refused _ _ _ (answer-read _ _ (told .before .before .read-sheet .ensures) (told .enum-told .given .1))
     _ (c .before .before .before .check-levels .ensures) (met .0 .0) (met .1))
 
 is-robust-requires : tie.Need-is-robust-requires
 is-robust-requires c κs =
     let checked = c .before .before .before .before .before in
-    let told = c .before .before .before .before .before .before .before in
-    let r = ready _ _ _ _ (told .before .before .read-sheet .ensures .outcome) (told .enum-told .given .1) _ (checked .check-levels .ensures) (c .before .before .before .enum-told2 .given .1) in
+    let told = c .before .before .before .before .before .before in
+    let r = ready _ _ _ (told .before .before .read-sheet .ensures) (told .enum-told .given .1) _ (checked .check-levels .ensures) (c .before .before .before .enum-told2 .given .1) in
     (r .known .operations .jobs-most, r .known .operations .objects-most, r .as-long)
 
 robust : tie.Need-returns-3
 robust c =
-    let told = c .before .before .before .before .before .before .before .before .before in
-    let r = ready _ _ _ _ (told .before .before .read-sheet .ensures .outcome) (told .enum-told .given .1)
+    let told = c .before .before .before .before .before .before .before .before in
+    let r = ready _ _ _ (told .before .before .read-sheet .ensures) (told .enum-told .given .1)
     _ (c .before .before .before .before .before .before .before .check-levels .ensures) (c .before .before .before .before .before .enum-told2 .given .1) in
     answers-passed _ _ _ true (r .passed) (rw (c .if1 .taken) at (c .before .is-robust .ensures (read-stands _ (r .known))))
 
 dangerous : tie.Need-returns-4
 dangerous c =
-    let told = c .before .before .before .before .before .before .before .before .before in
-    let r = ready _ _ _ _ (told .before .before .read-sheet .ensures .outcome) (told .enum-told .given .1)
+    let told = c .before .before .before .before .before .before .before .before in
+    let r = ready _ _ _ (told .before .before .read-sheet .ensures) (told .enum-told .given .1)
     _ (c .before .before .before .before .before .before .before .check-levels .ensures) (c .before .before .before .before .before .enum-told2 .given .1) in
     answers-passed _ _ _ false (r .passed) (rw (c .if1 .left) at (c .before .is-robust .ensures (read-stands _ (r .known))))
 

@@ -1,5 +1,6 @@
 use borrow.Author.Needs.{needs}
-use Rattle.planner.proofs.AnswerLaws.{is-read, not-read, levels-sheet, levels-refused, ready, read-stands, walk-refused, walk-told}
+use Rattle.sheet.specs.AnswerLaws.{answer-read, answer-refused}
+use Rattle.planner.proofs.AnswerLaws.{levels-sheet, levels-refused, ready, read-stands, walk-refused, walk-told}
 use Rattle.planner.proofs.next_danger.Statement.{statement}
 use Rattle.planner.proofs.next_danger.Tie as tie
 
@@ -7,7 +8,7 @@ not-a-sheet : tie.Need-returns
 not-a-sheet c =
     let met = c .before .before .reading .given in
     walk-refused _ _ _ _ (met .0 .0)
-    (levels-sheet _ _ (met .0 .0) (not-read _ _ _ (c .before .before .before .before .read-sheet .ensures .outcome) (met .0 .0) (met .1)))
+    (levels-sheet _ _ (met .0 .0) (answer-refused _ _ (c .before .before .before .before .read-sheet .ensures) (met .0 .0) (met .1)))
     (c .nothing-shown .ensures .0)
     (c .nothing-shown .ensures .1)
 
@@ -15,9 +16,9 @@ wrong-levels : tie.Need-returns-2
 wrong-levels c =
     let met = c .before .before .checked .given in
     let checked = c .before .before .before .before in
-    let told = checked .before .before in
+    let told = checked .before in
     walk-refused _ _ _ _ (met .0 .0)
-    (levels-refused _ _ _ (is-read _ _ _ (told .before .before .read-sheet .ensures .outcome) (told .enum-told .given .1)) _ (checked .check-levels .ensures) (met .0 .0) (met .1))
+    (levels-refused _ _ _ (answer-read _ _ (told .before .before .read-sheet .ensures) (told .enum-told .given .1)) _ (checked .check-levels .ensures) (met .0 .0) (met .1))
     (c .nothing-shown2 .ensures .0)
     (c .nothing-shown2 .ensures .1)
 
@@ -25,16 +26,16 @@ first-above-requires : tie.Need-first-above-requires
 first-above-requires c κs =
     let passed = c .before .before .before in
     let checked = passed .before .before in
-    let told = checked .before .before in
-    let r = ready _ _ _ _ (told .before .before .read-sheet .ensures .outcome) (told .enum-told .given .1) _ (checked .check-levels .ensures) (passed .enum-told2 .given .1) in
+    let told = checked .before in
+    let r = ready _ _ _ (told .before .before .read-sheet .ensures) (told .enum-told .given .1) _ (checked .check-levels .ensures) (passed .enum-told2 .given .1) in
     ((r .known .operations .jobs-most, r .known .operations .objects-most, r .as-long), read-stands _ (r .known))
 
 walked : tie.Need-returns-3
 walked c =
     let passed = c .before .before .before .before in
     let checked = passed .before .before in
-    let told = checked .before .before in
-    let r = ready _ _ _ _ (told .before .before .read-sheet .ensures .outcome) (told .enum-told .given .1) _ (checked .check-levels .ensures) (passed .enum-told2 .given .1) in
+    let told = checked .before in
+    let r = ready _ _ _ (told .before .before .read-sheet .ensures) (told .enum-told .given .1) _ (checked .check-levels .ensures) (passed .enum-told2 .given .1) in
     walk-told _ _ _ _ _ r (c .first-above .ensures (read-stands _ (r .known)))
 
 pub next-danger-spec : {M : Type 1} → statement M

@@ -1,5 +1,5 @@
-use Prim.Native.Nat.{ℕ, _-_, _≤_}
-use mathlib.Core.Path.{_≡_, refl, sym, _∙_}
+use Prim.Native.Nat.{_-_, _≤_}
+use mathlib.Core.Path.{_≡_, sym, _∙_}
 use native.Mathlib.Omega.{arith}
 use borrow.Author.Needs.{needs}
 use lib.ListN.{length, drop}
@@ -7,8 +7,6 @@ use Rattle.planner.specs.Checks.{noneAbove, levelsAt}
 use Rattle.planner.proofs.CheckLaws.{above-here, above-later, above-none, wrong-length, right-length}
 use Rattle.planner.proofs.levels.check_levels.Statement.{statement}
 use Rattle.planner.proofs.levels.check_levels.Tie as tie
-use Rattle.planner.proofs.levels.check_levels.Reads as reads
-use Rattle.planner.proofs.levels.check_levels.Lts as lts
 
 abbrev Inv-loop : tie.InvT-loop
 Inv-loop jobs levels i₀ i = (i ≤ length levels) × (noneAbove 2 i (drop i levels) ≡ levelsAt jobs levels)

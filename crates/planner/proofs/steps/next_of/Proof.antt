@@ -1,11 +1,9 @@
-use mathlib.Core.Path.{_≡_, refl}
+use mathlib.Core.Path.{refl}
 use native.Mathlib.Omega.{arith}
 use borrow.Author.Needs.{needs}
-use Rattle.planner.proofs.StepLaws.{DangerAt, found-danger, t1-named, b1-named, t2-named, tm-named, split-known, danger-in, step-end, step-found}
+use Rattle.planner.proofs.StepLaws.{found-danger, t1-named, b1-named, t2-named, tm-named, split-known, danger-in, step-end, step-found}
 use Rattle.planner.proofs.steps.next_of.Statement.{statement}
 use Rattle.planner.proofs.steps.next_of.Tie as tie
-use Rattle.planner.proofs.steps.next_of.Reads as reads
-use Rattle.planner.proofs.steps.next_of.Lts as lts
 
 ended : tie.Need-returns
 ended c =

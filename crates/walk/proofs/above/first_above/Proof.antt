@@ -53,12 +53,14 @@ operation-holds c =
     let walk = known .before in
     let start = walk .before .before .before .before in
     let watch = c .before .before .before .before .watched in
-    let ssi = watched-has (start .args .jobs) (start .args .levels .now) (walk .walk .t) _ _ (known .if1 .left) (walk .before .before .at-ssi .ensures) (watch .ensures) in (
+    let jobs = start .args .jobs in
+    let levels = start .args .levels .now in
+    let ssi = watched-has jobs levels (walk .walk .t) _ _ (known .if1 .left) (walk .before .before .at-ssi .ensures) (watch .ensures) in (
       record {
         known = omega (arith, known .if1 .left, start .pre);
         ssi = ssi;
         closed = λ js of. c .shut-by .ensures js _ _ _ _ _ of;
-        splits = λ js of. c .before .find-splits .ensures .splits js (levelOf (start .args .jobs) (start .args .levels .now)) _ of (level-of (start .args .jobs) (start .args .levels .now) (walk .walk .t) (known .if1 .left)) ssi;
+        splits = λ js of. c .before .find-splits .ensures .splits js (levelOf jobs levels) _ of (level-of jobs levels (walk .walk .t) (known .if1 .left)) ssi;
       },
       set-out _ _ _ _ _ (walk .walk .inv .2 .small),
     )
@@ -90,7 +92,7 @@ first-again c =
     let first = last .before .before .before .before in
     let op = first .before .before .before .before in
     next-first _ _ _ _ _ _ (op .operation .inv .0) (omega arith) _ (first .before .before .firsts-of .ensures) _ _ (last .before .before .lasts-of .ensures)
-    (omega arith) (last .before .end-of2 .ensures .1) (c .last-test .left) (go-on _ _ _ _ _ _ _ _ _ _ (first .first .inv) (last .last .inv))
+    (omega arith) (last .before .end-of2 .ensures .1) (c .last-test .left) (go-on _ (first .first .inv) (last .last .inv))
 
 operation-again : tie.Need-operation-again Inv-last μ-last Inv-first μ-first Inv-operation μ-operation Inv-walk μ-walk
 operation-again c =
@@ -98,7 +100,7 @@ operation-again c =
     let op = first .before .before .before .before in (
       op .operation .inv .0,
       next-operation _ _ _ _ _ _ (op .operation .inv .0) (omega arith) _ (first .before .before .firsts-of .ensures) _ (first .before .end-of .ensures .1)
-          (c .first-test .left) (go-on _ _ _ _ _ _ _ _ _ _ (op .operation .inv .1) (first .first .inv)),
+          (c .first-test .left) (go-on _ (op .operation .inv .1) (first .first .inv)),
     )
 
 walk-again : tie.Need-walk-again Inv-last μ-last Inv-first μ-first Inv-operation μ-operation Inv-walk μ-walk
@@ -106,7 +108,7 @@ walk-again c =
     let op = c .before in
     let walk = op .before .before .before .before .before .before .before .before in
     let full = op .before .before .find-splits .ensures in
-    (full .first-full, full .last-full, next-job _ _ _ _ _ _ (c .operation-test .left) (go-on _ _ _ _ _ _ _ _ _ _ (walk .walk .inv .2) (op .operation .inv .1)))
+    (full .first-full, full .last-full, next-job _ _ _ _ _ _ (c .operation-test .left) (go-on _ (walk .walk .inv .2) (op .operation .inv .1)))
 
 returns : tie.Need-returns Inv-last μ-last Inv-first μ-first Inv-operation μ-operation Inv-walk μ-walk
 returns c =
@@ -119,7 +121,7 @@ returns-2 c =
     let first = last .before .before .before .before in
     let op = first .before .before .before .before in
     let walk = op .before .before .before .before .before .before .before .before in
-    let passed = go-on _ _ _ _ _ _ _ _ _ _ (walk .walk .inv .2) (go-on _ _ _ _ _ _ _ _ _ _ (op .operation .inv .1) (go-on _ _ _ _ _ _ _ _ _ _ (first .first .inv) (last .last .inv))) in
+    let passed = go-on _ (walk .walk .inv .2) (go-on _ (op .operation .inv .1) (go-on _ (first .first .inv) (last .last .inv))) in
     λ js of n. rw (c .from-one .ensures) (finds _ _ _ (walk .before .start-above .ensures) js of n _ _ _ _ (op .operation .inv .0) (omega arith) _ (first .before .before .firsts-of .ensures) _
     (last .before .before .lasts-of .ensures) (sym (c .before .before .has .ensures) ∙ c .before .if2 .taken) passed)
 

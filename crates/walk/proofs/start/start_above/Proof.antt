@@ -6,29 +6,26 @@ use Rattle.walk.proofs.start.start_above.Statement.{statement}
 use Rattle.walk.proofs.start.start_above.Tie as tie
 
 returns : tie.Need-returns
-returns c = starts _ _ (omega arith) (omega arith) (omega arith) (omega arith) (λ t b f l hb hf hl. (λ h. omega arith, λ h. omega arith))
-
-cast-t : tie.Need-cast-t
-cast-t c = search needs
+returns c = starts _ _ (omega arith) (omega arith) (λ t b f l hb hf hl. omega arith)
 
 returns-2 : tie.Need-returns-2
-returns-2 c = starts _ _ (omega arith) (omega arith) (omega arith) (omega arith) (λ t b f l hb hf hl. (λ h. omega arith, λ h. omega arith))
-
-cast-b : tie.Need-cast-b
-cast-b c = search needs
+returns-2 c = starts _ _ (omega arith) (omega arith) (λ t b f l hb hf hl. omega arith)
 
 returns-3 : tie.Need-returns-3
-returns-3 c = starts _ _ (omega arith) (omega arith) (omega arith) (omega arith) (λ t b f l hb hf hl. (λ h. omega arith, λ h. omega arith))
-
-cast-t6 : tie.Need-cast-t6
-cast-t6 c = search needs
-
-cast-t7 : tie.Need-cast-t7
-cast-t7 c = search needs
+returns-3 c = starts _ _ (omega arith) (omega arith) (λ t b f l hb hf hl. omega arith)
 
 returns-4 : tie.Need-returns-4
-returns-4 c = starts _ _ (omega arith) (omega arith) (omega arith) (omega arith) (λ t b f l hb hf hl. (λ h. omega arith, λ h. omega arith))
+returns-4 c = starts _ _ (omega arith) (omega arith) (λ t b f l hb hf hl. omega arith)
 
 pub start-above-spec : {M : Type 1} → statement M
 start-above-spec =
-    tie.close (tie.spec returns cast-t returns-2 cast-b returns-3 cast-t6 cast-t7 returns-4)
+    tie.close
+    (tie.spec
+    returns
+    (λ c. search needs)
+    returns-2
+    (λ c. search needs)
+    returns-3
+    (λ c. search needs)
+    (λ c. search needs)
+    returns-4)
