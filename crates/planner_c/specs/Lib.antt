@@ -1,0 +1,4 @@
+pub mod Replies
+pub mod PlaceLaws
+pub mod ReplyLaws
+pub mod Settled

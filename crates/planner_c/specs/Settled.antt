@@ -1,0 +1,107 @@
+-- Each statement settles its reply and the lent bytes (document 01, "How firmly each call is tied down"), and a caller tells an accepted
+-- answer from a refusal, with its number and place, by the reply alone.
+-- Assumes nothing.
+use Prim.Native.Nat.{ℕ, _≤_}
+use mathlib.Core.Path.{_≡_, refl, sym, ap, _∙_}
+use mathlib.Core.Bool.{Bool}
+use mathlib.Core.List.{List}
+use native.Mathlib.Omega.{arith}
+use lib.Dec.{lit<}
+use lib.ListN.{length}
+use Rattle.theory.specs.Walk as theory
+use Rattle.sheet.specs.Step.{Step, ok, fault}
+use Rattle.sheet.specs.Sheet.{sheetOf}
+use Rattle.sheet.specs.Answer.{readingOf}
+use Rattle.sheet.specs.AnswerLaws.{settled}
+use Rattle.sheet.specs.declared.Refusal.{Refusal}
+use Rattle.sheet.specs.declared.Reading.{Reading}
+use Rattle.sheet.specs.declared.Reading.the-variants as reading
+use Rattle.sheet.specs.declared.ReadAnswer.{ReadAnswer}
+use Rattle.sheet.specs.declared.Table.{Table}
+use Rattle.walk.specs.declared.four.Four.{Four}
+use Rattle.planner.specs.Checks.{withLevels, withRoom}
+use Rattle.planner.specs.Questions.{Answers, verdictOf, walkOf, askedOf}
+use Rattle.planner.specs.Settled as questions
+use Rattle.planner.specs.declared.Verdict.{Verdict}
+use Rattle.planner.specs.declared.Verdict.the-variants as verdict
+use Rattle.planner.specs.declared.Walk.{Walk}
+use Rattle.planner.specs.declared.Walk.the-variants as walk
+use Rattle.planner.specs.declared.WalkAnswer.{WalkAnswer}
+use Rattle.planner.specs.declared.Handed.{Handed}
+use Rattle.planner.specs.declared.Handed.the-variants as handed
+use Rattle.planner_c.specs.Replies.{readCode, ReadReply, judgeCode, JudgeReply, stepCode, walkCode, foundIn, NextReply, askedCode, LowestReply, Told}
+use Rattle.planner_c.specs.ReplyLaws.{code-told, next-few, lowest-few}
+use Rattle.planner_c.specs.PlaceLaws.{Near, read-near, judge-near, next-near, lowest-near}
+
+-- two replies to one question are equal, and so are the lent bytes afterwards
+pub read-settled : (s : List ℕ) (n m : ℕ) → ReadReply s n → ReadReply s m → n ≡ m
+read-settled s n m p q =
+    p .reply ∙ ap (λ (a : ReadAnswer). readCode (a .reading)) (settled s (p .answer) (q .answer) (p .answered) (q .answered)) ∙ sym (q .reply)
+
+pub judge-settled : (s ls : List ℕ) (n m : ℕ) → JudgeReply s ls n → JudgeReply s ls m → n ≡ m
+judge-settled s ls n m p q =
+    p .reply ∙ ap judgeCode (questions.judge-settled s ls (p .verdict) (q .verdict) (p .judged) (q .judged)) ∙ sym (q .reply)
+
+pub next-settled :
+    (s ls : List ℕ) (above : Four) (before x y : List ℕ) (n m : ℕ)
+    → NextReply s ls above before x n → NextReply s ls above before y m → (n ≡ m) × (x ≡ y)
+next-settled s ls above before x y n m p q =
+    let one = questions.walk-settled s ls above (p .answer) (q .answer) (p .walked) (q .walked) in
+    (p .reply ∙ ap walkCode one ∙ sym (q .reply), p .bytes ∙ ap (λ (a : WalkAnswer). foundIn a before) one ∙ sym (q .bytes))
+
+pub lowest-settled : (s before x y : List ℕ) (n m : ℕ) → LowestReply s before x n → LowestReply s before y m → (n ≡ m) × (x ≡ y)
+lowest-settled s before x y n m p q =
+    let one = questions.lowest-settled s before x y (p .handed) (q .handed) (p .promised) (q .promised) in
+    (p .reply ∙ ap askedCode one ∙ sym (q .reply), questions.buffer-settled s before x y (p .handed) (q .handed) (p .promised) (q .promised))
+
+-- an answer tells of the checks what it says itself
+told : {A B : Type 0} (R : A → B → Type 0) (x : Step A) (y : Step B) (n : ℕ) → Answers R x y → Told y n → Told x n
+told R (ok a) (ok b) n p h = h
+told R (ok a) (fault number place) n p h = absurd p
+told R (fault k l) (ok b) n p h = absurd p
+told R (fault k l) (fault number place) n p h = rw (p .0, p .1) h
+
+pub read-told : (s : List ℕ) (n : ℕ) → ReadReply s n → Told (sheetOf s) n
+read-told s n p = rw (p .reply, ← p .answered .outcome) (cases (p .answer .reading) (λ r e. read-near s (p .answer) r (p .answered) e))
+  where
+    cases : (g : Reading) → ((r : Refusal) → g ≡ reading.Refused r → Near (r .place)) → Told (readingOf g (p .answer .table)) (readCode g)
+    cases reading.Sheet near = lit< tt
+    cases (reading.Refused r) near = code-told Table r (near r refl)
+
+pub judge-told : (s ls : List ℕ) (n : ℕ) → JudgeReply s ls n → Told (withLevels s ls) n
+judge-told s ls n p =
+    rw (p .reply)
+    (told _ (withLevels s ls) (verdictOf (p .verdict)) (judgeCode (p .verdict)) (p .judged)
+    (cases (p .verdict) (λ r e. judge-near s ls (p .verdict) r (p .judged) e)))
+  where
+    cases : (v : Verdict) → ((r : Refusal) → v ≡ verdict.Refused r → Near (r .place)) → Told (verdictOf v) (judgeCode v)
+    cases verdict.Robust near = lit< tt
+    cases verdict.Dangerous near = lit< tt
+    cases (verdict.Refused r) near = code-told Bool r (near r refl)
+
+pub next-told : (s ls : List ℕ) (above : Four) (before after : List ℕ) (n : ℕ) → NextReply s ls above before after n → Told (withLevels s ls) n
+next-told s ls above before after n p =
+    let a = p .answer in
+    rw (p .reply)
+    (told _ (withLevels s ls) (walkOf (a .walk)) (walkCode a) (p .walked .outcome)
+    (cases (a .walk) (a .length) (λ f e. next-few s ls above a f (p .walked) e) (λ r e. next-near s ls above a r (p .walked) e)))
+  where
+    cases :
+        (w : Walk) (k : ℕ) → ((f : Four) → w ≡ walk.Found f → k ≤ 32) → ((r : Refusal) → w ≡ walk.Refused r → Near (r .place))
+        → Told (walkOf w) (stepCode w k)
+    cases (walk.Found f) k few near = omega (arith, few f refl)
+    cases walk.End k few near = lit< tt
+    cases (walk.Refused r) k few near = code-told theory.Answer r (near r refl)
+
+pub lowest-told : (s before after : List ℕ) (n : ℕ) → LowestReply s before after n → Told (withRoom s (length before)) n
+lowest-told s before after n p =
+    let a = p .handed in
+    rw (p .reply)
+    (told _ (withRoom s (length before)) (askedOf a) (askedCode a) (p .promised .outcome)
+    (cases a (λ k e. lowest-few s before after a k (p .promised) e) (λ r e. lowest-near s before after a r (p .promised) e)))
+  where
+    cases :
+        (a : Handed) → ((k : ℕ) → a ≡ handed.Asked k → k ≤ 64) → ((r : Refusal) → a ≡ handed.Refused r → Near (r .place))
+        → Told (askedOf a) (askedCode a)
+    cases (handed.Asked k) few near = omega (arith, few k refl)
+    cases (handed.Refused r) few near = code-told ℕ r (near r refl)
