@@ -9,9 +9,9 @@ use crate::refusal::{refuse_if, Reason, Refusal};
 use crate::search::Search;
 use crate::sheet::Sheet;
 use crate::split::{Four, Split};
-use crate::survey::{danger_text, lowest_text, survey_sheet};
+use crate::survey::{danger_text, lowest_text};
 
-/// The lines for `survey`, `lowest ROOM`, `verdict LEVELS`, `dangers LEVELS` or `walk LEVELS T1 b1 T2 Tm`, levels in
+/// The lines for `read`, `judge LEVELS`, `step LEVELS T1 b1 T2 Tm`, `walk LEVELS` or `lowest ROOM`, levels in
 /// hexadecimal. `--fast` before it asks for the plain search, otherwise every chain is tried.
 pub fn oracle(words: &[String], bytes: &[u8]) -> Result<String, String> {
     let fast = words.first().is_some_and(|word| word == "--fast");
@@ -23,14 +23,14 @@ pub fn oracle(words: &[String], bytes: &[u8]) -> Result<String, String> {
     let dangers = if fast { Dangers::Plain(Search::new(&sheet)) } else { Dangers::Every(EveryChain::new(&sheet)) };
     let words: Vec<&str> = words.iter().map(String::as_str).collect();
     let lines = match words.as_slice() {
-        ["survey"] => Ok(survey_sheet(&sheet, &dangers)),
-        ["lowest", room] => lowest_line(&sheet, &dangers, number(room)?),
-        ["verdict", levels] => verdict_line(&sheet, &dangers, &hex(levels)?),
-        ["dangers", levels] => danger_lines(&sheet, &dangers, &hex(levels)?),
-        ["walk", levels, t1, b1, t2, tm] => {
+        ["read"] => Ok("read\n".to_string()),
+        ["judge", levels] => judge_line(&sheet, &dangers, &hex(levels)?),
+        ["step", levels, t1, b1, t2, tm] => {
             let above = [number(t1)?, number(b1)?, number(t2)?, number(tm)?];
-            walk_line(&sheet, &dangers, &hex(levels)?, above)
+            step_line(&sheet, &dangers, &hex(levels)?, above)
         }
+        ["walk", levels] => walk_lines(&sheet, &dangers, &hex(levels)?),
+        ["lowest", room] => lowest_line(&sheet, &dangers, number(room)?),
         _ => return Err("no such question".to_string()),
     };
     Ok(lines.unwrap_or_else(|refusal| format!("{refusal}\n")))
@@ -42,18 +42,18 @@ fn lowest_line(sheet: &Sheet, dangers: &Dangers, room: usize) -> Result<String, 
     Ok(format!("{} asked {asked}\n", lowest_text(&levels)))
 }
 
-fn verdict_line(sheet: &Sheet, dangers: &Dangers, levels: &[u8]) -> Result<String, Refusal> {
+fn judge_line(sheet: &Sheet, dangers: &Dangers, levels: &[u8]) -> Result<String, Refusal> {
     let robust = dangers.robust(&read_levels(sheet, levels)?);
     Ok(if robust { "robust\n" } else { "not robust\n" }.to_string())
 }
 
-fn danger_lines(sheet: &Sheet, dangers: &Dangers, levels: &[u8]) -> Result<String, Refusal> {
+fn walk_lines(sheet: &Sheet, dangers: &Dangers, levels: &[u8]) -> Result<String, Refusal> {
     let all = dangers.all(&read_levels(sheet, levels)?);
     let lines: String = all.iter().map(danger_line).collect();
     Ok(lines + "end\n")
 }
 
-fn walk_line(sheet: &Sheet, dangers: &Dangers, levels: &[u8], above: Four) -> Result<String, Refusal> {
+fn step_line(sheet: &Sheet, dangers: &Dangers, levels: &[u8], above: Four) -> Result<String, Refusal> {
     let found = dangers.next(&read_levels(sheet, levels)?, above);
     Ok(found.as_ref().map_or("end\n".to_string(), danger_line))
 }

@@ -16,7 +16,7 @@ pub fn survey(bytes: &[u8]) -> String {
     }
 }
 
-pub fn survey_sheet(sheet: &Sheet, dangers: &Dangers) -> String {
+fn survey_sheet(sheet: &Sheet, dangers: &Dangers) -> String {
     let mut text = format!("jobs {} objects {}\n", sheet.jobs.len(), sheet.objects);
     let all = dangers.all(&sheet.levels());
     for split in &all {

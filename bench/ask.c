@@ -1,0 +1,76 @@
+#include <stdio.h>
+#include <stdlib.h>
+#include <string.h>
+#include "ask.h"
+
+const char *const question_name[QUESTIONS] = { "read", "judge", "lowest", "step", "walk" };
+
+size_t load(const char *path, uint8_t sheet[MOST])
+{
+    FILE *f = fopen(path, "rb");
+    if (!f) {
+        perror(path);
+        exit(1);
+    }
+    size_t n = fread(sheet, 1, MOST, f);
+    fclose(f);
+    return n;
+}
+
+uint32_t step_on(const struct side *s, const uint8_t *sheet, size_t n, const uint8_t *level, size_t jobs, uint8_t at[4],
+                 struct danger *d)
+{
+    uint32_t reply = s->next(sheet, n, level, jobs, at[0], at[1], at[2], at[3], (uint8_t *)d);
+    if (reply > 0 && reply < PLANNER_REFUSED) memcpy(at, d->four, 4);
+    return reply;
+}
+
+static bool move(const struct side *s, const struct ask *a, uint8_t at[4])
+{
+    struct danger d;
+    uint32_t reply = step_on(s, a->sheet, a->n, a->level, a->jobs, at, &d);
+    return reply > 0 && reply < PLANNER_REFUSED;
+}
+
+static unsigned walk(const struct side *s, const struct ask *a)
+{
+    uint8_t at[4] = { 0 };
+    unsigned dangers = 0;
+    while (move(s, a, at)) dangers++;
+    return dangers;
+}
+
+void prepare(struct ask *a, const char *path)
+{
+    uint8_t at[4] = { 0 };
+    a->n = load(path, a->sheet);
+    if (fast.read(a->sheet, a->n)) {
+        fprintf(stderr, "%s: not a sheet\n", path);
+        exit(1);
+    }
+    a->jobs = a->sheet[4];
+    size_t p = 7;
+    for (unsigned j = 0; j < a->jobs; j++) a->level[j] = a->sheet[p + 3], p += 5 + 3 * (size_t)a->sheet[p + 4];
+    a->dangers = walk(&fast, a);
+    a->steps = 0;
+    for (unsigned i = 0, next = 0; i <= a->dangers; i++) {
+        if (i == next) {
+            memcpy(a->from[a->steps++], at, 4);
+            next = a->dangers < STEPS ? i + 1 : (unsigned)((uint64_t)a->steps * a->dangers / (STEPS - 1));
+        }
+        move(&fast, a, at);
+    }
+}
+
+void put(const struct ask *a)
+{
+    const struct side *s = a->side;
+    uint8_t answer[JOBS], at[4];
+    switch (a->question) {
+    case READ: s->read(a->sheet, a->n); break;
+    case JUDGE: s->judge(a->sheet, a->n, a->level, a->jobs); break;
+    case LOWEST: s->lowest(a->sheet, a->n, answer, JOBS); break;
+    case STEP: memcpy(at, a->from[a->step], 4), move(s, a, at); break;
+    default: walk(s, a);
+    }
+}

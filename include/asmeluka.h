@@ -1,0 +1,91 @@
+/* The level planner's questions for C and C++.
+ *
+ * Link with target/staticlib/libplanner_c.a (x86-64), which `rt staticlib planner_c` proves and writes. For every
+ * content of the bytes lent to it, each function is proved to end and to answer as said here; docs/STATEMENTS.md has
+ * the promises. What a sheet, a danger and the lowest levels are is fixed by document 01, whose sections are cited.
+ *
+ * What the caller keeps, since no proof sees it:
+ *   - An address is good for as many bytes as the length beside it says, `found` for PLANNER_FOUND bytes. Where the
+ *     length is 0 it is still an address, not a null pointer.
+ *   - What is written, `found` and `answer`, overlaps nothing else that is lent. `sheet` and `levels` may overlap.
+ *   - No other thread writes lent bytes, or reads `found` or `answer`, before the function returns.
+ * The functions keep nothing between calls and take no memory but the stack (docs/FIGURES.md says how much).
+ *
+ * A reply of PLANNER_REFUSED or more is a refusal: the reason's number times 65536 plus the place. On a refusal no lent
+ * byte has changed. All other replies are below PLANNER_REFUSED. A sheet's own fault comes first, then 13, 14 and 15,
+ * each only where the function has that argument (document 01, "Reasons for turning a call down").
+ */
+#ifndef ASMELUKA_H
+#define ASMELUKA_H
+
+#include <stddef.h>
+#include <stdint.h>
+
+#ifdef __cplusplus
+extern "C" {
+#endif
+
+/* Isolation levels, one byte each: read committed, snapshot, serializable snapshot (document 01, "What the planner
+ * takes and gives"). */
+enum { PLANNER_RC = 0, PLANNER_SI = 1, PLANNER_SSI = 2 };
+
+/* The most of each in a sheet of form 1, and the bytes of the longest (document 01, "The sheet, form 1"). */
+enum { PLANNER_JOBS = 32, PLANNER_OPERATIONS = 16, PLANNER_OBJECTS = 4096, PLANNER_LONGEST = 1706 };
+
+/* `found` of planner_next: the four numbers T1, b1, T2, Tm; 32 bytes for the jobs T2 .. Tm of the chain shown; 32 pairs
+ * of two bytes, from the pair of T1 and T2 to the pair of Tm and T1, the earlier job's operation first. A chain of k
+ * jobs has k + 1 pairs. Jobs and operations count from 1, and what is not used is 0 (document 01, "The walk and the
+ * chain shown"). The last three are where the parts begin. */
+enum { PLANNER_FOUND = 100, PLANNER_FOUND_FOUR = 0, PLANNER_FOUND_CHAIN = 4, PLANNER_FOUND_PAIRS = 36 };
+
+/* A refusal's reason and where its place points (document 01, "Reasons for turning a call down"). */
+enum {
+    PLANNER_REFUSED = 65536,
+    PLANNER_SHORT = 1,              /* a record is cut short: its first byte */
+    PLANNER_TAG = 2,                /* another tag is due here: the record's first byte */
+    PLANNER_LENGTH = 3,             /* wrong length: the record's first byte */
+    PLANNER_FORM = 4,               /* the form is not 1: its byte */
+    PLANNER_TOO_MANY_JOBS = 5,      /* more than 32: their byte */
+    PLANNER_TOO_MANY_OBJECTS = 6,   /* more than 4096: the first of their bytes */
+    PLANNER_LEVEL = 7,              /* a job's level is above 2: its byte */
+    PLANNER_COUNT = 8,              /* no operation, or more than 16: the count's byte */
+    PLANNER_KIND = 9,               /* neither a read nor a write: the kind's byte */
+    PLANNER_OBJECT = 10,            /* not below the declared number: the first of its bytes */
+    PLANNER_TWICE = 11,             /* a job's second read or second write of an object: its kind's byte */
+    PLANNER_AFTER = 12,             /* bytes after the end record: the first */
+    PLANNER_LEVELS_LENGTH = 13,     /* not one level for each job: 0 */
+    PLANNER_LEVELS_LEVEL = 14,      /* a level above 2 in the list: its index, from 0 */
+    PLANNER_ROOM = 15               /* the answer has fewer bytes than there are jobs: 0 */
+};
+
+static inline uint32_t planner_reason(uint32_t refusal) { return refusal / PLANNER_REFUSED; }
+static inline uint32_t planner_place(uint32_t refusal) { return refusal % PLANNER_REFUSED; }
+
+/* Is this a sheet? 0 if it is, else the refusal with the first fault from the first byte on. Changes no byte.
+ * Document 01, "The sheet, form 1". */
+uint32_t planner_read(const uint8_t *sheet, size_t sheet_length);
+
+/* Is the sheet robust against the levels, one for each job in sheet order? 1 if no danger exists, 0 if one does, or a
+ * refusal (1 to 14). The levels in the sheet itself play no part. Changes no byte.
+ * Document 01, "Conflicts and splits". */
+uint32_t planner_judge(const uint8_t *sheet, size_t sheet_length, const uint8_t *levels, size_t levels_length);
+
+/* Which danger is the first above the four numbers, T1 compared first, then b1, T2, Tm? The number of jobs in its
+ * chain, 1 to 31, and all of `found` is written as laid out above: the chain is the shortest, of several the lowest,
+ * each pair the lowest that will do. Or 0 if none is above, or a refusal (1 to 14): then `found` keeps every byte. The
+ * four numbers may be any bytes. Asked from four zeros, and then from each danger found, it shows every danger once, in
+ * rising order. Document 01, "The walk and the chain shown". */
+uint32_t planner_next(const uint8_t *sheet, size_t sheet_length, const uint8_t *levels, size_t levels_length,
+                      uint8_t t1, uint8_t b1, uint8_t t2, uint8_t tm, uint8_t found[PLANNER_FOUND]);
+
+/* Which are the lowest levels? The number asked, 0 to 64, and the first bytes of `answer` are the levels, one for each
+ * job in sheet order; the bytes behind them stay. The sheet is robust against these levels, and against no list in
+ * which some job is lower. Or a refusal (1 to 12, 15): then `answer` keeps every byte.
+ * Document 01, "Lowest levels and the number asked". */
+uint32_t planner_lowest(const uint8_t *sheet, size_t sheet_length, uint8_t *answer, size_t answer_length);
+
+#ifdef __cplusplus
+}
+#endif
+
+#endif
