@@ -5,7 +5,7 @@
  *   bench growth [OPTIONS] SHEET..      what it costs on the later sheets beside the first
  *   bench stack [OPTIONS] SHEET..       bytes of stack that each question touches
  *
- * OPTIONS: -c SECONDS after which a question is given up (3), -s SIDE,.. of alg1 plain fast ours (all that are linked),
+ * OPTIONS: -c SECONDS after which a question is given up (2), -s SIDE,.. of alg1 plain fast ours (all that are linked),
  * -q QUESTION,.. of read judge lowest step walk (all).
  */
 #include <stdio.h>
@@ -35,7 +35,7 @@ static void choose(struct choice *c, const char *sides, const char *questions)
 
 int main(int argc, char **argv)
 {
-    struct choice c = { .seconds = 3 };
+    struct choice c = { .seconds = 2 };
     const char *sides = 0, *questions = 0, *what = argc > 1 ? argv[1] : "";
     int at = 2;
     for (; at + 1 < argc && argv[at][0] == '-'; at += 2)

@@ -1,4 +1,4 @@
-/* Work that is given up after some seconds. */
+/* Work that is given up after some seconds of the processor's time. */
 #ifndef LIMIT_H
 #define LIMIT_H
 #include <setjmp.h>

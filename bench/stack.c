@@ -13,7 +13,7 @@ static const struct ask *subject;
 
 static void on_stack(void) { put(subject); }
 
-/* Bytes from the top to the deepest one touched; 0 if the question was given up. */
+/* Bytes from the top to the deepest one touched, so far if the question is given up. */
 static unsigned touched(const struct ask *a, double limit)
 {
     unsigned left = 0;
@@ -24,9 +24,10 @@ static unsigned touched(const struct ask *a, double limit)
     inside.uc_stack.ss_size = DEPTH;
     inside.uc_link = &outside;
     makecontext(&inside, on_stack, 0);
-    if (sigsetjmp(too_long, 1)) return 0;
-    limit_to(limit);
-    swapcontext(&outside, &inside);
+    if (!sigsetjmp(too_long, 1)) {
+        limit_to(limit);
+        swapcontext(&outside, &inside);
+    }
     limit_to(0);
     while (left < DEPTH && painted[left] == PAINT) left++;
     return DEPTH - left;
@@ -38,7 +39,6 @@ static unsigned deepest(struct ask *a, double limit)
     unsigned starts = a->question == STEP ? a->steps : 1, most = 0;
     for (a->step = 0; a->step < starts; a->step++) {
         unsigned depth = touched(a, limit);
-        if (depth == 0) return most;
         if (depth > most) most = depth;
     }
     return most;

@@ -1,5 +1,5 @@
 /* Time, always of one side beside another or of one sheet beside another: a time by itself says little, and nothing
- * under an emulator. */
+ * under an emulator. The best of many short rounds counts, so that what else the machine does is left out. */
 #define _GNU_SOURCE
 #include <stdio.h>
 #include <string.h>
@@ -7,40 +7,41 @@
 #include "limit.h"
 #include "timing.h"
 
-static double now(void)
+static double now(clockid_t clock)
 {
     struct timespec t;
-    clock_gettime(CLOCK_MONOTONIC, &t);
+    clock_gettime(clock, &t);
     return (double)t.tv_sec + 1e-9 * (double)t.tv_nsec;
 }
 
-/* The goes that are under way. */
+/* The goes that are under way, begun at so many seconds of the processor's time. */
 static volatile double begun;
 static volatile unsigned under_way;
 
+/* A long round is never left in peace, so the processor's time counts; for a short one its steps may be too coarse. */
 static double seconds_for(const struct ask *a, unsigned times)
 {
-    begun = now();
     under_way = times;
+    begun = now(CLOCK_PROCESS_CPUTIME_ID);
+    double from = now(CLOCK_MONOTONIC);
     for (unsigned i = 0; i < times; i++) put(a);
-    return now() - begun;
+    double seconds = now(CLOCK_MONOTONIC) - from;
+    return seconds < 0.2 ? seconds : now(CLOCK_PROCESS_CPUTIME_ID) - begun;
 }
 
-/* Seconds for one go: the best of some rounds of at least a share of 0.02 seconds, so that what else the machine does
- * is left out. */
-static double best_of_rounds(const struct ask *a, double limit, unsigned shares)
+/* Seconds for one go, in rounds until so many are spent. A round is long beside the clock's step, and short enough to
+ * be left in peace. */
+static double best_of_rounds(const struct ask *a, double for_all)
 {
     unsigned times = 1;
-    double best = 0;
-    for (double all = 0; all < 0.02 / shares; times *= 2) {
-        all = seconds_for(a, times);
-        best = all / times;
+    double round = seconds_for(a, times), spent = round;
+    for (; round < 0.0002; spent += round) round = seconds_for(a, times *= 2);
+    double best = round;
+    for (; spent < for_all; spent += round) {
+        round = seconds_for(a, times);
+        if (round < best) best = round;
     }
-    for (unsigned round = 0; round < 9 && best * times * (round + 1) < limit / 4 / shares; round++) {
-        double each = seconds_for(a, times) / times;
-        if (each < best) best = each;
-    }
-    return best;
+    return best / times;
 }
 
 /* Seconds for one go, a step's being the mean over its starts. If it is given up, the least that it can be, below
@@ -49,11 +50,18 @@ static double measured(struct ask *a, double limit)
 {
     unsigned starts = a->question == STEP ? a->steps : 1;
     volatile double sum = 0;
-    if (sigsetjmp(too_long, 1)) return -(sum + (now() - begun) / under_way) / starts;
+    if (sigsetjmp(too_long, 1)) return -(sum + (now(CLOCK_PROCESS_CPUTIME_ID) - begun) / under_way) / starts;
     limit_to(limit);
-    for (a->step = 0; a->step < starts; a->step++) sum += best_of_rounds(a, limit, starts);
+    for (a->step = 0; a->step < starts; a->step++) sum += best_of_rounds(a, 0.3 / starts);
     limit_to(0);
     return sum / starts;
+}
+
+/* What the library is measured against is given up sooner than the library and the C that is meant to be fast. */
+static double cost(struct ask *a, const struct side *s, double seconds)
+{
+    a->side = s;
+    return measured(a, s == &alg1 || s == &plain ? seconds : 30 * seconds);
 }
 
 static const char *name_of(const char *path)
@@ -66,14 +74,14 @@ static const char *name_of(const char *path)
 static void show_ratio(double high, double low)
 {
     double ratio = (high < 0 ? -high : high) / low;
-    if (low < 0) printf(" %12s", "-");
-    else printf(" %s%10.*f", high < 0 ? "> " : "  ", ratio < 100 ? 2 : 0, ratio);
+    if (low < 0) printf(" %13s", "-");
+    else printf(" %s%11.*f", high < 0 ? "> " : "  ", ratio < 100 ? 2 : 0, ratio);
 }
 
 static void show_microseconds(double seconds)
 {
     double us = 1e6 * (seconds < 0 ? -seconds : seconds);
-    printf(" %s%10.*f\n", seconds < 0 ? "> " : "  ", us < 100 ? 2 : 0, us);
+    printf(" %s%11.*f\n", seconds < 0 ? "> " : "  ", us < 100 ? 2 : 0, us);
     fflush(stdout);
 }
 
@@ -86,18 +94,25 @@ static void show_heading(const struct choice *c)
     for (unsigned i = 0; i + 1 < c->sides; i++) {
         const struct side *s = c->side[i];
         snprintf(text, sizeof text, "%s/%s", s == &fast ? last->name : s->name, s == &fast ? s->name : last->name);
-        printf(" %12s", text);
+        printf(" %13s", text);
     }
-    printf(" %9s us\n", last->name);
+    printf(" %10s us\n", last->name);
+}
+
+/* The sides take turns, twice, so that a machine that slows down meanwhile slows all of them. */
+static void costs(const struct choice *c, struct ask *a, double t[SIDES])
+{
+    for (unsigned i = 0; i < c->sides; i++) t[i] = cost(a, c->side[i], c->seconds);
+    for (unsigned i = 0; i < c->sides; i++) {
+        double again = t[i] > 0 ? cost(a, c->side[i], c->seconds) : 0;
+        if (again > 0 && again < t[i]) t[i] = again;
+    }
 }
 
 static void show_question(const struct choice *c, struct ask *a)
 {
     double t[SIDES], *last = &t[c->sides - 1];
-    for (unsigned i = 0; i < c->sides; i++) {
-        a->side = c->side[i];
-        t[i] = measured(a, c->seconds);
-    }
+    costs(c, a, t);
     printf("%-12s %-8s", "", question_name[a->question]);
     for (unsigned i = 0; i + 1 < c->sides; i++)
         if (c->side[i] == &fast) show_ratio(*last, t[i]);
@@ -117,32 +132,36 @@ void ratios(const struct choice *c, char **paths)
     }
 }
 
-/* Each side's cost on the later sheets beside its cost on the first. */
+enum { SERIES = 8 };
+
+static void show_growth(const struct choice *c, struct ask *series, unsigned sheets, enum question q)
+{
+    for (unsigned i = 0; i < c->sides; i++) {
+        double first = 0;
+        printf("%-12s %-8s", i ? "" : question_name[q], c->side[i]->name);
+        for (unsigned k = 0; k < sheets; k++) {
+            series[k].question = q;
+            double t = cost(&series[k], c->side[i], c->seconds);
+            if (k == 0) first = t;
+            show_ratio(t, first);
+        }
+        printf("\n");
+        fflush(stdout);
+    }
+}
+
 void growth(const struct choice *c, char **paths)
 {
-    enum { SERIES = 8 };
-    static struct ask ask[SERIES];
+    static struct ask series[SERIES];
     unsigned sheets = 0;
     printf("%-12s %-8s", "question", "side");
     for (; paths[sheets] && sheets < SERIES; sheets++) {
-        prepare(&ask[sheets], paths[sheets]);
-        printf(" %12s", name_of(paths[sheets]));
+        prepare(&series[sheets], paths[sheets]);
+        printf(" %13s", name_of(paths[sheets]));
     }
     printf("\n%-12s %-8s", "dangers", "");
-    for (unsigned k = 0; k < sheets; k++) printf(" %12u", ask[k].dangers);
+    for (unsigned k = 0; k < sheets; k++) printf(" %13u", series[k].dangers);
     printf("\n");
     for (enum question q = READ; q < QUESTIONS; q++)
-        for (unsigned i = 0; c->wanted[q] && i < c->sides; i++) {
-            double first = 0;
-            printf("%-12s %-8s", i ? "" : question_name[q], c->side[i]->name);
-            for (unsigned k = 0; k < sheets; k++) {
-                ask[k].side = c->side[i];
-                ask[k].question = q;
-                double t = measured(&ask[k], c->seconds);
-                if (k == 0) first = t;
-                show_ratio(t, first);
-            }
-            printf("\n");
-            fflush(stdout);
-        }
+        if (c->wanted[q]) show_growth(c, series, sheets, q);
 }
