@@ -40,6 +40,15 @@ static unsigned walk(const struct side *s, const struct ask *a)
     return dangers;
 }
 
+static void take_steps(const struct side *s, const struct ask *a)
+{
+    for (unsigned i = 0; i < a->steps; i++) {
+        uint8_t at[4];
+        memcpy(at, a->from[i], 4);
+        move(s, a, at);
+    }
+}
+
 void prepare(struct ask *a, const char *path)
 {
     uint8_t at[4] = { 0 };
@@ -65,12 +74,12 @@ void prepare(struct ask *a, const char *path)
 void put(const struct ask *a)
 {
     const struct side *s = a->side;
-    uint8_t answer[JOBS], at[4];
+    uint8_t answer[JOBS];
     switch (a->question) {
     case READ: s->read(a->sheet, a->n); break;
     case JUDGE: s->judge(a->sheet, a->n, a->level, a->jobs); break;
     case LOWEST: s->lowest(a->sheet, a->n, answer, JOBS); break;
-    case STEP: memcpy(at, a->from[a->step], 4), move(s, a, at); break;
+    case STEP: take_steps(s, a); break;
     default: walk(s, a);
     }
 }

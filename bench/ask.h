@@ -14,14 +14,13 @@ struct ask {
     enum question question;
     uint8_t sheet[MOST], level[JOBS];
     size_t n;
-    unsigned jobs, dangers;
-    unsigned steps, step;
+    unsigned jobs, dangers, steps;
     uint8_t from[STEPS][4];     /* where the steps start: at zeros, at the last danger, and evenly between */
 };
 
 size_t load(const char *path, uint8_t sheet[MOST]);     /* ends the program if it can't */
 void prepare(struct ask *, const char *path);
-void put(const struct ask *);
+void put(const struct ask *);       /* STEP puts all its steps */
 
 /* The first danger above `at`, which moves there: the reply. */
 uint32_t step_on(const struct side *, const uint8_t *sheet, size_t n, const uint8_t *level, size_t jobs, uint8_t at[4],

@@ -33,17 +33,6 @@ static unsigned touched(const struct ask *a, double limit)
     return DEPTH - left;
 }
 
-/* The most over a question's starts. */
-static unsigned deepest(struct ask *a, double limit)
-{
-    unsigned starts = a->question == STEP ? a->steps : 1, most = 0;
-    for (a->step = 0; a->step < starts; a->step++) {
-        unsigned depth = touched(a, limit);
-        if (depth > most) most = depth;
-    }
-    return most;
-}
-
 /* A side that does nothing: what `put` itself takes. */
 static uint32_t no_read(const uint8_t *b, size_t n) { return (void)b, (void)n, 0; }
 static uint32_t no_judge(const uint8_t *b, size_t n, const uint8_t *l, size_t m) { return (void)b, no_read(l, n + m); }
@@ -60,10 +49,9 @@ static const struct side idle = { "idle", no_read, no_judge, no_next, no_lowest 
 static unsigned beyond_put(struct ask *a, const struct side *s, double limit)
 {
     a->side = &idle;
-    a->step = 0;
     unsigned base = touched(a, limit);
     a->side = s;
-    unsigned depth = deepest(a, limit);
+    unsigned depth = touched(a, limit);
     return depth > base ? depth - base : 0;
 }
 

@@ -29,32 +29,34 @@ static double seconds_for(const struct ask *a, unsigned times)
     return seconds < 0.2 ? seconds : now(CLOCK_PROCESS_CPUTIME_ID) - begun;
 }
 
-/* Seconds for one go, in rounds until so many are spent. A round is long beside the clock's step, and short enough to
- * be left in peace. */
-static double best_of_rounds(const struct ask *a, double for_all)
+/* Seconds for one go: the best of many short rounds, or for what takes a millisecond or more the mean of a long one. */
+static double go(const struct ask *a)
 {
+    enum { ROUNDS = 400 };
     unsigned times = 1;
-    double round = seconds_for(a, times), spent = round;
-    for (; round < 0.0002; spent += round) round = seconds_for(a, times *= 2);
-    double best = round;
-    for (; spent < for_all; spent += round) {
+    double round = seconds_for(a, times), best;
+    if (round > 0.001) {
+        times = 1 + (unsigned)(0.3 / round);
+        return times == 1 ? round : seconds_for(a, times) / times;
+    }
+    while (round < 0.0002) round = seconds_for(a, times *= 2);
+    best = round;
+    for (unsigned i = 0; i < ROUNDS; i++) {
         round = seconds_for(a, times);
         if (round < best) best = round;
     }
     return best / times;
 }
 
-/* Seconds for one go, a step's being the mean over its starts. If it is given up, the least that it can be, below
- * zero. */
-static double measured(struct ask *a, double limit)
+/* Seconds for one question. If it is given up, the least that it can be, below zero. */
+static double measured(const struct ask *a, double limit)
 {
-    unsigned starts = a->question == STEP ? a->steps : 1;
-    volatile double sum = 0;
-    if (sigsetjmp(too_long, 1)) return -(sum + (now(CLOCK_PROCESS_CPUTIME_ID) - begun) / under_way) / starts;
+    unsigned questions = a->question == STEP ? a->steps : 1;
+    if (sigsetjmp(too_long, 1)) return -(now(CLOCK_PROCESS_CPUTIME_ID) - begun) / under_way / questions;
     limit_to(limit);
-    for (a->step = 0; a->step < starts; a->step++) sum += best_of_rounds(a, 0.3 / starts);
+    double seconds = go(a);
     limit_to(0);
-    return sum / starts;
+    return seconds / questions;
 }
 
 /* What the library is measured against is given up sooner than the library and the C that is meant to be fast. */
