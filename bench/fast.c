@@ -297,6 +297,28 @@ static bool none_at(const struct sets *s, const uint8_t *level, uint32_t ssi, un
     return level[t1] == RC ? !s->rw[t1] : !splits_above_rc(s, t1, level[t1] == SSI ? ssi : 0);
 }
 
+/* The jobs of the set from that number on, numbers from 1. */
+static uint32_t from_on(uint32_t set, unsigned number)
+{
+    return number > JOBS ? 0 : number ? set & ~(uint32_t)0 << (number - 1) : set;
+}
+
+/* The first danger for t1 and b1 in q, with a first job in `first` and, if `above` is given, above its t2 and tm. */
+static bool pick(const struct sets *s, const uint8_t *level, uint32_t ssi, struct split p, uint32_t first,
+                 const uint8_t *above, unsigned q[4])
+{
+    uint32_t open = free_of(s, q[0]);
+    EACH(t2, first) {
+        uint32_t last = last_for(p, level, ssi, q[0], t2);
+        if (above && t2 + 1 == above[2]) last = from_on(last, above[3] + 1u);
+        if (last & ~(bit(t2) | s->clash[t2])) last &= spread(s->clash, bit(t2), open);
+        if (!last) continue;
+        q[2] = t2, q[3] = lowest_of(last);
+        return true;
+    }
+    return false;
+}
+
 /* The first danger above the four numbers given, all from 0 in q. */
 static bool next_danger(const struct table *t, const struct sets *s, const uint8_t *level, const uint8_t above[4],
                         unsigned q[4])
@@ -317,18 +339,12 @@ static bool next_danger(const struct table *t, const struct sets *s, const uint8
             struct split p = split_at(t, s, level, ssi, t1, b1, ww, after[b1]);
             uint32_t first = p.first & hopeful;
             bool here = tight && b1 + 1 == above[1];
-            if (here) first = above[2] > JOBS ? 0 : above[2] ? first & ~(uint32_t)0 << (above[2] - 1) : first;
+            if (here) first = from_on(first, above[2]);
             if (!first) continue;
             if (!p.last) break;
             if (p.last != made_of) hopeful = spread(s->clash, p.last, open), made_of = p.last;
-            EACH(t2, first & hopeful) {
-                uint32_t last = last_for(p, level, ssi, t1, t2);
-                if (here && t2 + 1 == above[2]) last = above[3] >= JOBS ? 0 : last & ~(uint32_t)0 << above[3];
-                if (last & ~(bit(t2) | s->clash[t2])) last &= spread(s->clash, bit(t2), open);
-                if (!last) continue;
-                q[0] = t1, q[1] = b1, q[2] = t2, q[3] = lowest_of(last);
-                return true;
-            }
+            q[0] = t1, q[1] = b1;
+            if (pick(s, level, ssi, p, first & hopeful, here ? above : 0, q)) return true;
         }
     }
     return false;

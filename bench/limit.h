@@ -3,7 +3,8 @@
 #define LIMIT_H
 #include <setjmp.h>
 
-/* Where the work goes when its time is up: set by sigsetjmp(too_long, 1) before limit_to(seconds). limit_to(0) ends it. */
+/* Where the work goes when its time is up: set by sigsetjmp(too_long, 1) before limit_to(seconds). limit_to(0) is no
+ * limit. */
 extern sigjmp_buf too_long;
 void limit_to(double seconds);
 
