@@ -29,23 +29,25 @@ static double seconds_for(const struct ask *a, unsigned times)
     return seconds < 0.2 ? seconds : now(CLOCK_PROCESS_CPUTIME_ID) - begun;
 }
 
-/* Seconds for one go: the best of many short rounds, or for what takes a millisecond or more the mean of a long one. */
-static double go(const struct ask *a)
+static double best_of(unsigned rounds, const struct ask *a, unsigned times)
 {
-    enum { ROUNDS = 400 };
-    unsigned times = 1;
-    double round = seconds_for(a, times), best;
-    if (round > 0.001) {
-        times = 1 + (unsigned)(0.3 / round);
-        return times == 1 ? round : seconds_for(a, times) / times;
-    }
-    while (round < 0.0002) round = seconds_for(a, times *= 2);
-    best = round;
-    for (unsigned i = 0; i < ROUNDS; i++) {
-        round = seconds_for(a, times);
+    double best = seconds_for(a, times);
+    while (--rounds > 0) {
+        double round = seconds_for(a, times);
         if (round < best) best = round;
     }
     return best / times;
+}
+
+/* Seconds for one go: by many short rounds, or for what takes a millisecond or more by some long ones. */
+static double go(const struct ask *a)
+{
+    unsigned times = 1;
+    double one = seconds_for(a, 1);
+    if (one > 0.2) return one;
+    if (one > 0.001) return best_of(3, a, 1 + (unsigned)(0.2 / one));
+    while (seconds_for(a, times) < 0.0002) times *= 2;
+    return best_of(400, a, times);
 }
 
 /* Seconds for one question. If it is given up, the least that it can be, below zero. */
@@ -64,6 +66,14 @@ static double cost(struct ask *a, const struct side *s, double seconds)
 {
     a->side = s;
     return measured(a, s == &alg1 || s == &plain ? seconds : 30 * seconds);
+}
+
+/* The cost measured once more, unless it was given up: the better of the two. All that stands beside each other is
+ * measured in turn, twice, so that a machine that slows down meanwhile slows all of it. */
+static double again(struct ask *a, const struct side *s, double seconds, double first)
+{
+    double second = first < 0 ? first : cost(a, s, seconds);
+    return second > 0 && second < first ? second : first;
 }
 
 static const char *name_of(const char *path)
@@ -101,20 +111,11 @@ static void show_heading(const struct choice *c)
     printf(" %10s us\n", last->name);
 }
 
-/* The sides take turns, twice, so that a machine that slows down meanwhile slows all of them. */
-static void costs(const struct choice *c, struct ask *a, double t[SIDES])
-{
-    for (unsigned i = 0; i < c->sides; i++) t[i] = cost(a, c->side[i], c->seconds);
-    for (unsigned i = 0; i < c->sides; i++) {
-        double again = t[i] > 0 ? cost(a, c->side[i], c->seconds) : 0;
-        if (again > 0 && again < t[i]) t[i] = again;
-    }
-}
-
 static void show_question(const struct choice *c, struct ask *a)
 {
     double t[SIDES], *last = &t[c->sides - 1];
-    costs(c, a, t);
+    for (unsigned i = 0; i < c->sides; i++) t[i] = cost(a, c->side[i], c->seconds);
+    for (unsigned i = 0; i < c->sides; i++) t[i] = again(a, c->side[i], c->seconds, t[i]);
     printf("%-12s %-8s", "", question_name[a->question]);
     for (unsigned i = 0; i + 1 < c->sides; i++)
         if (c->side[i] == &fast) show_ratio(*last, t[i]);
@@ -136,20 +137,14 @@ void ratios(const struct choice *c, char **paths)
 
 enum { SERIES = 8 };
 
-static void show_growth(const struct choice *c, struct ask *series, unsigned sheets, enum question q)
+static void show_growth(const struct side *s, struct ask *series, unsigned sheets, double seconds)
 {
-    for (unsigned i = 0; i < c->sides; i++) {
-        double first = 0;
-        printf("%-12s %-8s", i ? "" : question_name[q], c->side[i]->name);
-        for (unsigned k = 0; k < sheets; k++) {
-            series[k].question = q;
-            double t = cost(&series[k], c->side[i], c->seconds);
-            if (k == 0) first = t;
-            show_ratio(t, first);
-        }
-        printf("\n");
-        fflush(stdout);
-    }
+    double t[SERIES];
+    for (unsigned k = 0; k < sheets; k++) t[k] = cost(&series[k], s, seconds);
+    for (unsigned k = 0; k < sheets; k++) t[k] = again(&series[k], s, seconds, t[k]);
+    for (unsigned k = 0; k < sheets; k++) show_ratio(t[k], t[0]);
+    printf("\n");
+    fflush(stdout);
 }
 
 void growth(const struct choice *c, char **paths)
@@ -165,5 +160,9 @@ void growth(const struct choice *c, char **paths)
     for (unsigned k = 0; k < sheets; k++) printf(" %13u", series[k].dangers);
     printf("\n");
     for (enum question q = READ; q < QUESTIONS; q++)
-        if (c->wanted[q]) show_growth(c, series, sheets, q);
+        for (unsigned i = 0; c->wanted[q] && i < c->sides; i++) {
+            for (unsigned k = 0; k < sheets; k++) series[k].question = q;
+            printf("%-12s %-8s", i ? "" : question_name[q], c->side[i]->name);
+            show_growth(c->side[i], series, sheets, c->seconds);
+        }
 }
