@@ -32,6 +32,7 @@ use Rattle.planner.specs.declared.WalkAnswer.{WalkAnswer}
 use Rattle.planner.specs.declared.Handed.{Handed}
 use Rattle.planner.specs.declared.Handed.the-variants as handed
 
+-- small enough to stand beside a number in one reply
 abbrev pub Near : ℕ → Type 0
 Near place = place < 65536
 
@@ -43,7 +44,7 @@ unfolding Ends
 ends-less P P' Q Q' f g (ok a) h = f a h
 ends-less P P' Q Q' f g (fault number place) h = g place h
 
-pub sheet-near : (s : List ℕ) → Ends ReadTable Near (sheetOf s)
+sheet-near : (s : List ℕ) → Ends ReadTable Near (sheetOf s)
 sheet-near s = ends-less (SheetRead s) ReadTable (Within s) Near (λ t h. h .table) (λ p h. omega arith) (sheetOf s) (sheet-ends s)
 
 abbrev Any : Unit {0} → Type 0

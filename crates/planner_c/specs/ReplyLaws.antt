@@ -60,18 +60,20 @@ jobs-few : (t : Table) → ReadTable t → length (jobsOf t) ≤ 32
 jobs-few t known = omega (arith, jobs-length (t .count) (t .kind) (t .object) (t .jobs), known .operations .jobs-most)
 
 -- the jobs of a chain are distinct jobs of the sheet
-chain-few : (js : Jobs form1) (ls : List ℕ) (f : theory.Four) (a : WalkAnswer) → ChainBeside js ls f a → a .length ≤ length js
+chain-few : (js : Jobs form1) (ls : List ℕ) (f : theory.Four) (a : WalkAnswer) → ChainBeside js ls f a → (1 ≤ a .length) × (a .length ≤ length js)
 chain-few js ls f a h =
     let c = h .shown .shown .jobs .chain in
     let row = h .t2 ∷ h .shown .rest in
-    omega (arith, h .shown .count, pigeons (length js) row (and-right (not (some? (eqb (h .t1)) row)) (distinct? row) (c .distinct)) (c .known))
+    let few = pigeons (length js) row (and-right (not (some? (eqb (h .t1)) row)) (distinct? row) (c .distinct)) (c .known) in
+    (omega (arith, h .shown .count), omega (arith, h .shown .count))
 
-pub next-few : (s ls : List ℕ) (above : Four) (a : WalkAnswer) (f : Four) → Walked s ls above a → a .walk ≡ walk.Found f → a .length ≤ 32
+pub next-few : (s ls : List ℕ) (above : Four) (a : WalkAnswer) (f : Four) → Walked s ls above a → a .walk ≡ walk.Found f → (1 ≤ a .length) × (a .length ≤ 32)
 next-few s ls above a f h e =
     let R : Table → theory.Answer → Type 0 = λ t. Walks ls above a (jobsOf t) in
     let o = accepted-of ReadTable Near R (withLevels s ls) (theory.found (named f)) (with-levels-near s ls)
     (subst (λ (w : Walk). Answers R (withLevels s ls) (walkOf w)) e (h .outcome)) in
-    omega (arith, jobs-few (o .0) (o .1), chain-few (jobsOf (o .0)) ls (named f) a (o .2 .1))
+    let few = chain-few (jobsOf (o .0)) ls (named f) a (o .2 .1) in
+    (few .0, omega (arith, jobs-few (o .0) (o .1)))
 
 pub lowest-few : (s before after : List ℕ) (a : Handed) (n : ℕ) → LowestHanded s before after a → a ≡ handed.Asked n → n ≤ 64
 lowest-few s before after a n h e =

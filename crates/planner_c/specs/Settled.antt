@@ -30,7 +30,7 @@ use Rattle.planner.specs.declared.WalkAnswer.{WalkAnswer}
 use Rattle.planner.specs.declared.Handed.{Handed}
 use Rattle.planner.specs.declared.Handed.the-variants as handed
 use Rattle.planner_c.specs.Replies.{readCode, ReadReply, judgeCode, JudgeReply, stepCode, walkCode, foundIn, NextReply, askedCode, LowestReply, Told}
-use Rattle.planner_c.specs.ReplyLaws.{code-told, next-few, lowest-few}
+use Rattle.planner_c.specs.ReplyLaws.{number-in, code-told, next-few, lowest-few}
 use Rattle.planner_c.specs.PlaceLaws.{Near, read-near, judge-near, next-near, lowest-near}
 
 -- two replies to one question are equal, and so are the lent bytes afterwards
@@ -87,11 +87,22 @@ next-told s ls above before after n p =
     (cases (a .walk) (a .length) (λ f e. next-few s ls above a f (p .walked) e) (λ r e. next-near s ls above a r (p .walked) e)))
   where
     cases :
-        (w : Walk) (k : ℕ) → ((f : Four) → w ≡ walk.Found f → k ≤ 32) → ((r : Refusal) → w ≡ walk.Refused r → Near (r .place))
+        (w : Walk) (k : ℕ) → ((f : Four) → w ≡ walk.Found f → (1 ≤ k) × (k ≤ 32)) → ((r : Refusal) → w ≡ walk.Refused r → Near (r .place))
         → Told (walkOf w) (stepCode w k)
     cases (walk.Found f) k few near = omega (arith, few f refl)
     cases walk.End k few near = lit< tt
     cases (walk.Refused r) k few near = code-told theory.Answer r (near r refl)
+
+-- the reply 0 to a step of the walk is the end
+pub end-told : (s ls : List ℕ) (above : Four) (before after : List ℕ) (p : NextReply s ls above before after 0) → p .answer .walk ≡ walk.End
+end-told s ls above before after p = cases (p .answer .walk) (p .reply) (λ f e. next-few s ls above (p .answer) f (p .walked) e)
+  where
+    cases :
+        (w : Walk) → 0 ≡ stepCode w (p .answer .length)
+        → ((f : Four) → w ≡ walk.Found f → (1 ≤ p .answer .length) × (p .answer .length ≤ 32)) → w ≡ walk.End
+    cases (walk.Found f) e few = absurd (omega (arith, few f refl))
+    cases walk.End e few = refl
+    cases (walk.Refused r) e few = absurd (omega (arith, number-in (r .reason)))
 
 pub lowest-told : (s before after : List ℕ) (n : ℕ) → LowestReply s before after n → Told (withRoom s (length before)) n
 lowest-told s before after n p =

@@ -8,7 +8,10 @@ ghost use lib.ListN.{length, take, drop};
 // Copies a row of bytes to the places of `found` from `at` on.
 fn put(row: &[u8], at: usize, found: &mut [u8])
     requires { ⌜ at + length (now row) ≤ length (now found) ⌝ }
-    ensures { λ _. ⌜ now (found .exit) ≡ take at (now (found .entry)) ++ now (row .entry) ++ drop (at + length (now (row .entry))) (now (found .entry)) ⌝ }
+    ensures { λ _. ⌜
+        now (found .exit)
+        ≡ take at (now (found .entry)) ++ now (row .entry) ++ drop (at + length (now (row .entry))) (now (found .entry))
+        ⌝ }
 {
     for i in 0..row.len() {
         found[at + i] = row[i];

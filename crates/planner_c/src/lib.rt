@@ -1,4 +1,4 @@
-// The questions for C and Rust, over numbers and byte slices alone. A refusal is its number times 65536 and its place.
+// The questions for C and Rust, over numbers and byte slices alone (include/asmeluka.h). A refusal is its number times 65536 and its place.
 mod found;
 
 use planner::Handed;
