@@ -2,7 +2,8 @@
  *
  * Link with target/staticlib/libplanner_c.a (x86-64), which `rt staticlib planner_c` proves and writes. For every
  * content of the bytes lent to it, each function is proved to end and to answer as said here; docs/STATEMENTS.md has
- * the promises. What a sheet, a danger and the lowest levels are is fixed by document 01, whose sections are cited.
+ * the promises. What a sheet, a danger and the lowest levels are is fixed by document 01, whose sections are cited, and
+ * said in other words in docs/SHEET.md and docs/DANGERS.md.
  *
  * What the caller keeps, since no proof sees it:
  *   - An address is good for as many bytes as the length beside it says, `found` for PLANNER_FOUND bytes. Where the
