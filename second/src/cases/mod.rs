@@ -14,8 +14,8 @@ pub use mixed::random;
 
 use crate::questions::Question;
 
-/// The kinds of questions that `replies` answers so far.
-pub const KINDS: &[u8] = &[1];
+/// The kinds of questions that `replies` answers.
+pub const KINDS: &[u8] = &[1, 2, 3, 4];
 
 const STORED_SEED: u64 = 1;
 const STORED_RANDOM_OF_EACH_KIND: usize = 4000;
