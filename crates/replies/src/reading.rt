@@ -74,14 +74,13 @@ pub fn put_answer(sheet: &[u8], out: &mut [u8], used: &mut usize) {
         put_refusal(r, out, used);
         return;
     }
-    let t = a.table;
     put_table(
-        t.jobs,
-        t.objects,
-        &t.level,
-        &t.count,
-        &t.kind,
-        &t.object,
+        a.table.jobs,
+        a.table.objects,
+        &a.table.level,
+        &a.table.count,
+        &a.table.kind,
+        &a.table.object,
         out,
         used,
     );

@@ -45,33 +45,22 @@ fn put_dangers(
     rw: &[u32; 32],
     wr: &[u32; 32],
     clash: &[u32; 32],
-    levels: &[u8],
+    level: &[u8],
     out: &mut [u8],
     used: &mut usize,
 )
-    requires { ⌜ (jobs ≤ 32) × (jobs ≤ length (now levels)) ⌝ }
+    requires { ⌜ (jobs ≤ 32) × (jobs ≤ length (now level)) ⌝ }
     requires { ⌜ SetsStand jobs (now kind) (now object) (now writers) (now ww) (now rw) (now wr) (now clash) ⌝ }
 {
     let mut count = 0;
-    let mut above = Four {
+    let mut from = Four {
         t1: 0,
         b1: 0,
         t2: 0,
         tm: 0,
     };
     loop {
-        let step = next_of(
-            jobs,
-            kind,
-            object,
-            writers,
-            ww,
-            rw,
-            wr,
-            clash,
-            levels,
-            above,
-        );
+        let step = next_of(jobs, kind, object, writers, ww, rw, wr, clash, level, from);
         let w = step.walk;
         let Walk::Found(q) = w else {
             put_named(b"dangers ", count, out, used);
@@ -79,7 +68,7 @@ fn put_dangers(
         };
         put_found(q, &step.chain, out, used);
         count += 1;
-        above = q;
+        from = q;
     }
 }
 
@@ -114,11 +103,11 @@ fn put_lines(
     rw: &[u32; 32],
     wr: &[u32; 32],
     clash: &[u32; 32],
-    levels: &[u8],
+    level: &[u8],
     out: &mut [u8],
     used: &mut usize,
 )
-    requires { ⌜ (jobs ≤ 32) × (jobs ≤ length (now levels)) ⌝ }
+    requires { ⌜ (jobs ≤ 32) × (jobs ≤ length (now level)) ⌝ }
     requires { ⌜ SetsStand jobs (now kind) (now object) (now writers) (now ww) (now rw) (now wr) (now clash) ⌝ }
 {
     put_head(jobs, objects, out, used);
@@ -131,7 +120,7 @@ fn put_lines(
         rw,
         wr,
         clash,
-        levels,
+        level,
         out,
         used,
     );
@@ -142,14 +131,13 @@ fn put_lines(
 fn put_table<'a>(
     jobs: usize,
     objects: usize,
-    levels: &'a [u8; 32],
+    level: &'a [u8; 32],
     kind: &'a [u8; 512],
     object: &'a [u16; 512],
     out: &mut [u8],
     used: &mut usize,
 )
-    requires { ⌜ (jobs ≤ 32) × (objects ≤ 4096) ⌝ }
-    requires { ⌜ Stands jobs objects (now kind) (now object) ⌝ }
+    requires { ⌜ (jobs ≤ 32) × (objects ≤ 4096) × Stands jobs objects (now kind) (now object) ⌝ }
 {
     let mut writers = [0u32; 512];
     let mut ww = [0u32; 32];
@@ -177,7 +165,7 @@ fn put_table<'a>(
         &rw,
         &wr,
         &clash,
-        levels,
+        level,
         out,
         used,
     );
@@ -192,8 +180,15 @@ fn survey(s: &[u8], out: &mut [u8], used: &mut usize) {
         put(out, used, b'\n');
         return;
     }
-    let t = a.table;
-    put_table(t.jobs, t.objects, &t.level, &t.kind, &t.object, out, used);
+    put_table(
+        a.table.jobs,
+        a.table.objects,
+        &a.table.level,
+        &a.table.kind,
+        &a.table.object,
+        out,
+        used,
+    );
 }
 
 fn main() {

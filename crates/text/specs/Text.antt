@@ -7,7 +7,7 @@ use lib.Dec.{ltb}
 use lib.ListN.{length}
 use lib.Seq.{sets}
 
--- `bytes` stand from the first `used` bytes of `out` on, as many as there is room for, and count as used
+-- `bytes` stand behind the first `used` bytes of `out`, as many as there is room for, and are counted
 pub record Put (bytes out : List ℕ) (used : ℕ) (out' : List ℕ) (used' : ℕ) : Type 0 where
   pub stored : out' ≡ sets out used bytes
   pub counted : used' ≡ max used (min (used + length bytes) (length out))

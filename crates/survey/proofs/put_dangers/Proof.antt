@@ -11,12 +11,12 @@ use Rattle.survey.proofs.put_dangers.Tie as tie
 
 -- each danger has a key of its own, so there are no more of them than the key says
 abbrev Inv-loop : tie.InvT-loop
-Inv-loop jobs kind object writers ww rw wr clash levels out₀ used₀ count₀ above₀ t17 out used count above =
-    (count ≤ keyOf above) × Bytes above × (length out ≡ length out₀)
+Inv-loop jobs kind object writers ww rw wr clash level out₀ used₀ count₀ from₀ t17 out used count from =
+    (count ≤ keyOf from) × Bytes from × (length out ≡ length out₀)
 
 abbrev μ-loop : tie.MeasureT-loop
-μ-loop jobs kind object writers ww rw wr clash levels out₀ used₀ count₀ above₀ t17 out used count above =
-    4294967296 - keyOf above
+μ-loop jobs kind object writers ww rw wr clash level out₀ used₀ count₀ from₀ t17 out used count from =
+    4294967296 - keyOf from
 
 loop-holds : tie.Need-loop-holds Inv-loop μ-loop
 loop-holds c = (omega arith, record { t1 = lit< tt; b1 = lit< tt; t2 = lit< tt; tm = lit< tt }, refl)
@@ -27,7 +27,7 @@ loop-less c =
     let step = found .before .before in
     let turn = step .before in
     let start = turn .before .before .before in
-    let rise = rises (start .pre .1 .js) (start .args .levels .now) (turn .loop .above) (found .w .given .0 .0) (step .next-of .result)
+    let rise = rises (start .pre .1 .js) (start .args .level .now) (turn .loop .from) (found .w .given .0 .0) (step .next-of .result)
     (turn .loop .inv .1) (c .before .before .put-found .ensures) (found .w .given .1) (step .next-of .ensures (start .pre .1)) in
     omega arith
 

@@ -6,9 +6,9 @@ use Rattle.survey.proofs.survey.Tie as tie
 
 put-table-requires : tie.Need-put-table-requires
 put-table-requires c κs =
-    let read = c .before .before .before .before .before .before .before .before .before in
+    let read = c .before .before .before .before .before .before .before .before in
     let t = answer-table _ _ (read .read-sheet .ensures) in
-    ((t .operations .jobs-most, t .operations .objects-most), read-stands _ t)
+    (t .operations .jobs-most, t .operations .objects-most, read-stands _ t)
 
 pub survey-spec : {M : Type 1} → statement M
 survey-spec =

@@ -2,7 +2,6 @@ use borrow.Author.Needs.{needs}
 use native.Mathlib.Omega.{arith}
 use Prim.Native.Nat.{_≤_, _-_}
 use mathlib.Core.Path.{_≡_, refl}
-use mathlib.Core.List.{[]}
 use lib.ListN.{length, take}
 use lib.Seq.{take-all}
 use Rattle.text.specs.Text.{Put}

@@ -6,7 +6,7 @@ use Rattle.replies.proofs.reading.put_answer.Tie as tie
 -- whatever was read, the table has at most 32 jobs of at most 16 operations
 put-table-requires : tie.Need-put-table-requires
 put-table-requires c κs =
-    let read = c .before .before .before .before .before .before .before .before .before .before in
+    let read = c .before .before .before .before .before .before .before .before .before in
     let t = answer-table _ _ (read .read-sheet .ensures) in
     (t .operations .jobs-most, t .operations .count-most)
 
