@@ -1,36 +1,30 @@
 -- From what the code has met to what a question promises, one law for each outcome.
 -- Assumes nothing.
-use Prim.Native.Nat.{ℕ, _≤_, _<_}
-use mathlib.Core.Path.{_≡_, refl, sym, ap, subst, _∙_}
-use mathlib.Core.List.{List}
+use Prim.Native.Nat.{ℕ, _≤_}
+use mathlib.Core.Path.{_≡_, refl, sym, ap, _∙_}
+use mathlib.Core.List.{List, _++_}
 use native.Mathlib.Omega.{arith}
-use borrow.Author.Tests.{lt-ltb, le-ltb}
-use lib.ListN.{length}
-use Rattle.sheet.specs.Step.{Step, ok, fault, refuse, next}
+use lib.ListN.{length, take, drop}
+use lib.Seq.{length-take-le, length-front, take-at, drop-at}
+use Rattle.sheet.specs.Step.{Step, ok, fault, next}
 use Rattle.sheet.specs.Sheet.{sheetOf}
 use Rattle.sheet.specs.Answer.{faultOf, Answered}
 use Rattle.sheet.specs.AnswerLaws.{answer-read, answer-table}
-use Rattle.sheet.specs.declared.Reason.the-variants.{Room}
 use Rattle.sheet.specs.declared.Refusal.{Refusal}
 use Rattle.sheet.specs.declared.ReadAnswer.{ReadAnswer}
 use Rattle.sheet.specs.declared.Reading.the-variants as reading
 use Rattle.sheet.specs.declared.Table.{Table}
 use Rattle.sheet.specs.Jobs.{jobsOf}
 use Rattle.sheet.specs.ReadTable.{ReadTable}
-use Rattle.theory.specs.Danger.{Jobs}
-use Rattle.theory.specs.Form1.{form1}
-use Rattle.conflicts.specs.Laid.{Laid, Below}
 use Rattle.conflicts.specs.LaidLaws.{count-read, laid-read, below-read}
-use Rattle.verdict.specs.Verdict.{Lowers}
-use Rattle.planner.proofs.CheckLaws.{passed-length}
-use Rattle.planner.specs.Checks.{levelsAt, checkedOf, withLevels, withRoom}
-use Rattle.planner.specs.Questions.{Answers, Walks, walkOf, Walked, NoChain, LowestHanded}
+use Rattle.planner.proofs.CheckLaws.{passed-length, passed-room}
+use Rattle.planner.specs.Checks.{levelsAt, roomAt, checkedOf, sheetWith, withLevels, withRoom}
+use Rattle.planner.specs.Questions.{Answers, Walks, walkOf, Walked, NoChain, InBuffer, Copies}
 use Rattle.planner.specs.Stands.{Stands}
 use Rattle.planner.specs.declared.levels.Checked.{Checked}
 use Rattle.planner.specs.declared.levels.Checked.the-variants as checked
 use Rattle.planner.specs.declared.Walk.the-variants as walk
 use Rattle.planner.specs.declared.WalkAnswer.{WalkAnswer}
-use Rattle.planner.specs.declared.Handed.the-variants as handed
 use Rattle.walk.specs.declared.four.Four.{Four}
 
 module _ {A B : Type 0} (R : A → B → Type 0) (x : Step A) where
@@ -40,19 +34,20 @@ module _ {A B : Type 0} (R : A → B → Type 0) (x : Step A) where
   pub answers-passed : (a : A) (b : B) → x ≡ ok a → R a b → Answers R x (ok b)
   answers-passed a b e h = rw e h
 
-module _ (s ls : List ℕ) where
-  pub levels-sheet : (r : Refusal) → sheetOf s ≡ faultOf r → withLevels s ls ≡ faultOf r
-  unfolding withLevels next
-  levels-sheet r e = rw e
+-- a sheet with what comes with it: not read, turned down by the check, or passed
+module _ (check : Table → Step (Unit {0})) (s : List ℕ) where
+  pub sheet-refused : (r : Refusal) → sheetOf s ≡ faultOf r → sheetWith check s ≡ faultOf r
+  unfolding sheetWith next
+  sheet-refused r e = rw e
 
-  module _ (t : Table) (e : sheetOf s ≡ ok t) (c : Checked) (met : checkedOf c ≡ levelsAt (t .jobs) ls) where
-    pub levels-refused : (r : Refusal) → c ≡ checked.Refused r → withLevels s ls ≡ faultOf r
-    unfolding withLevels next
-    levels-refused r f = rw (e, ← met, f)
+  module _ (t : Table) (e : sheetOf s ≡ ok t) (c : Checked) (met : checkedOf c ≡ check t) where
+    pub check-refused : (r : Refusal) → c ≡ checked.Refused r → sheetWith check s ≡ faultOf r
+    unfolding sheetWith next
+    check-refused r f = rw (e, ← met, f)
 
-    pub levels-passed : c ≡ checked.Passed → withLevels s ls ≡ ok t
-    unfolding withLevels next
-    levels-passed f = rw (e, ← met, f)
+    pub check-passed : c ≡ checked.Passed → sheetWith check s ≡ ok t
+    unfolding sheetWith next
+    check-passed f = rw (e, ← met, f)
 
 -- what a question knows once its sheet is read and its levels have passed
 pub record Ready (s ls : List ℕ) (t : Table) : Type 0 where
@@ -64,7 +59,7 @@ pub ready :
     (s ls : List ℕ) (a : ReadAnswer) → Answered s a → a .reading ≡ reading.Sheet
     → (c : Checked) → checkedOf c ≡ levelsAt (a .table .jobs) ls → c ≡ checked.Passed → Ready s ls (a .table)
 ready s ls a h e c met f = record {
-  passed = levels-passed s ls (a .table) (answer-read s a h e) c met f;
+  passed = check-passed (λ t. levelsAt (t .jobs) ls) s (a .table) (answer-read s a h e) c met f;
   known = answer-table s a h;
   as-long = passed-length (a .table .jobs) ls (sym (ap checkedOf f) ∙ met);
 }
@@ -90,32 +85,45 @@ module _ (s ls : List ℕ) (above : Four) (a : WalkAnswer) where
     refused = λ r e. absurd (rw e at told);
   }
 
-module _ (s : List ℕ) (room : ℕ) where
-  room-sheet : (r : Refusal) → sheetOf s ≡ faultOf r → withRoom s room ≡ faultOf r
-  unfolding withRoom next
-  room-sheet r e = rw e
+-- what a question knows once its sheet is read and its answer buffer is long enough
+pub record Roomy (s : List ℕ) (room : ℕ) (t : Table) : Type 0 where
+  pub passed : withRoom s room ≡ ok t
+  pub known : ReadTable t
+  pub enough : t .jobs ≤ room
 
-  room-short : (t : Table) → sheetOf s ≡ ok t → room < t .jobs → withRoom s room ≡ fault 15 0
-  unfolding withRoom next refuse
-  room-short t e h = rw e (simp (lt-ltb _ _ h))
+pub roomy :
+    (s : List ℕ) (room : ℕ) (a : ReadAnswer) → Answered s a → a .reading ≡ reading.Sheet
+    → (c : Checked) → checkedOf c ≡ roomAt (a .table .jobs) room → c ≡ checked.Passed → Roomy s room (a .table)
+roomy s room a h e c met f = record {
+  passed = check-passed (λ t. roomAt (t .jobs) room) s (a .table) (answer-read s a h e) c met f;
+  known = answer-table s a h;
+  enough = passed-room (a .table .jobs) room (sym (ap checkedOf f) ∙ met);
+}
 
-  room-passed : (t : Table) → sheetOf s ≡ ok t → t .jobs ≤ room → withRoom s room ≡ ok t
-  unfolding withRoom next refuse
-  room-passed t e h = rw e (simp (le-ltb _ _ h))
+-- a number with an answer buffer, over what stands in the buffer
+module _ (R : Table → (before after : List ℕ) → ℕ → Type 0) (s before : List ℕ) where
+  pub buffer-kept : (r : Refusal) → withRoom s (length before) ≡ faultOf r → InBuffer R s before before (faultOf r)
+  buffer-kept r e = record { outcome = answers-refused (λ t. R t before before) _ r e; refused = λ _ _ _. refl }
 
-module _ (s before : List ℕ) where
-  handed-back : (r : Refusal) → withRoom s (length before) ≡ faultOf r → LowestHanded s before before (handed.Refused r)
-  handed-back r e = record { outcome = answers-refused (λ t. Lowers form1 (jobsOf t) before before) _ r e; refused = λ _ _. refl }
+  pub buffer-filled : (t : Table) → Roomy s (length before) t → (after : List ℕ) (n : ℕ) → R t before after n → InBuffer R s before after (ok n)
+  buffer-filled t h after n filled = record {
+    outcome = answers-passed (λ t. R t before after) _ t n (h .passed) filled;
+    refused = λ number place f. let z : _≡_ {A = ℕ} 0 1 = cc in absurd (omega arith);
+  }
 
-  pub lowest-sheet : (r : Refusal) → sheetOf s ≡ faultOf r → LowestHanded s before before (handed.Refused r)
-  lowest-sheet r e = handed-back r (room-sheet s (length before) r e)
+-- the first bytes of the buffer copied from the levels of the table
+pub levels-copied :
+    (s : List ℕ) (t : Table) (before after : List ℕ) → Roomy s (length before) t
+    → after ≡ take (t .jobs) (t .level) ++ drop (t .jobs) before → Copies t before after (t .jobs)
+levels-copied s t before after h e = record {
+  levels = ap (take (t .jobs)) e ∙ take-at row (drop (t .jobs) before) (t .jobs) long;
+  size = ap length e ∙ length-front before row (t .jobs) (long ∙ sym (length-take-le (t .jobs) before (h .enough)));
+  kept = ap (drop (t .jobs)) e ∙ drop-at row (drop (t .jobs) before) (t .jobs) long;
+  number = refl;
+}
+  where
+    row : List ℕ
+    row = take (t .jobs) (t .level)
 
-  module _ (t : Table) (e : sheetOf s ≡ ok t) where
-    pub lowest-short : length before < t .jobs → LowestHanded s before before (handed.Refused (record { place = 0; reason = Room }))
-    lowest-short h = handed-back _ (room-short s (length before) t e h)
-
-    pub lowest-handed : (after : List ℕ) (n : ℕ) → t .jobs ≤ length before → Lowers form1 (jobsOf t) before after n → LowestHanded s before after (handed.Asked n)
-    lowest-handed after n h low = record {
-      outcome = answers-passed (λ t. Lowers form1 (jobsOf t) before after) _ t n (room-passed s (length before) t e h) low;
-      refused = λ r f. let z : _≡_ {A = ℕ} 0 1 = cc in absurd (omega arith);
-    }
+    long : length row ≡ t .jobs
+    long = length-take-le (t .jobs) (t .level) (omega (arith, h .known .level-length, h .known .operations .jobs-most))

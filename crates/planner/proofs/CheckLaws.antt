@@ -1,16 +1,16 @@
--- Laws of the check of a list of levels.
+-- Laws of the checks of a list of levels and of an answer buffer.
 -- Assumes nothing.
 use Prim.Native.Nat.{ℕ, zero, suc, _+_, _≤_, _<_}
-use mathlib.Core.Path.{_≡_, refl, sym, ap, _∙_}
+use mathlib.Core.Path.{_≡_, refl}
 use mathlib.Core.List.{List, [], _∷_}
 use native.Mathlib.Numerals.{add-one}
-use native.Mathlib.Decide.{ℕ-discrete}
+use native.Mathlib.Decide.{ℕ-discrete, decLe}
 use native.Mathlib.Omega.{arith}
 use borrow.Author.Tests.{lt-ltb, le-ltb, eq-eqb, ne-eqb}
 use lib.ListN.{length, getD, drop}
 use lib.Seq.{drop-cons}
-use Rattle.sheet.specs.Step.{Step, ok, fault, refuse}
-use Rattle.planner.specs.Checks.{noneAbove, levelsAt}
+use Rattle.sheet.specs.Step.{ok, fault, refuse}
+use Rattle.planner.specs.Checks.{noneAbove, levelsAt, roomAt}
 
 module _ (top : ℕ) (ls : List ℕ) (i : ℕ) where
   pub above-here : i < length ls → top < getD ls i 0 → noneAbove top i (drop i ls) ≡ fault 14 i
@@ -46,3 +46,19 @@ module _ (jobs : ℕ) (ls : List ℕ) where
       cases : Dec (length ls ≡ jobs) → length ls ≡ jobs
       cases (yes h) = h
       cases (no h) = let f = wrong-length h in let z : _≡_ {A = ℕ} 0 1 = cc in absurd (omega arith)
+
+module _ (jobs room : ℕ) where
+  pub room-short : room < jobs → roomAt jobs room ≡ fault 15 0
+  unfolding roomAt refuse
+  room-short h = simp (lt-ltb _ _ h)
+
+  pub room-enough : jobs ≤ room → roomAt jobs room ≡ ok tt
+  unfolding roomAt refuse
+  room-enough h = simp (le-ltb _ _ h)
+
+  pub passed-room : ok tt ≡ roomAt jobs room → jobs ≤ room
+  passed-room e = cases (decLe jobs room)
+    where
+      cases : Dec (jobs ≤ room) → jobs ≤ room
+      cases (yes h) = h
+      cases (no h) = let f = room-short (omega arith) in let z : _≡_ {A = ℕ} 0 1 = cc in absurd (omega arith)

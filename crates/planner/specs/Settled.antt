@@ -2,14 +2,14 @@
 -- Assumes nothing.
 use Prim.Native.Nat.{ℕ, suc, _*_}
 use mathlib.Core.Path.{_≡_, refl, sym, ap, ap₂, _∙_}
-use mathlib.Core.Bool.{Bool, true, false}
-use mathlib.Core.List.{List, [], _∷_, _++_, map}
+use mathlib.Core.Bool.{Bool}
+use mathlib.Core.List.{List, _∷_, _++_, map}
 use native.Mathlib.Omega.{arith}
 use native.Mathlib.Nat.{suc-inj}
-use lib.ListN.{length, take, drop, replicate, take-append-drop}
+use lib.ListN.{length, drop, replicate}
 use Rattle.theory.specs.Danger.{Jobs}
 use Rattle.theory.specs.Form1.{form1}
-use Rattle.theory.specs.Planner.{Robust₁, Shown₁, one-answer₁, one-shown₁, one-lowest₁, one-asked₁}
+use Rattle.theory.specs.Planner.{Robust₁, Shown₁, one-answer₁, one-shown₁}
 use Rattle.theory.specs.Walk as theory
 use Rattle.sheet.specs.Step.{Step, ok, fault}
 use Rattle.sheet.specs.Answer.{faultOf}
@@ -18,11 +18,12 @@ use Rattle.sheet.specs.Jobs.{jobsOf}
 use Rattle.sheet.specs.declared.Refusal.{Refusal}
 use Rattle.sheet.specs.declared.Table.{Table}
 use Rattle.verdict.specs.Verdict.{Tells, Lowers}
+use Rattle.verdict.specs.SettledLaws.{one-verdict, one-lowering, same-bytes}
 use Rattle.walk.specs.Answers.{named}
 use Rattle.walk.specs.ShownIn.{pairRow}
 use Rattle.walk.specs.declared.four.Four.{Four}
 use Rattle.planner.specs.Checks.{withLevels, withRoom}
-use Rattle.planner.specs.Questions.{Answers, verdictOf, Judged, walkOf, Beside, Walks, ChainBeside, NoChain, Walked, askedOf, LowestHanded}
+use Rattle.planner.specs.Questions.{Answers, verdictOf, Judged, walkOf, Beside, Walks, ChainBeside, NoChain, Walked, InBuffer, askedOf, LowestHanded, copiedOf, Copies, LevelsCopied}
 use Rattle.planner.specs.declared.Verdict.{Verdict}
 use Rattle.planner.specs.declared.Verdict.the-variants as verdict
 use Rattle.planner.specs.declared.Walk.{Walk}
@@ -30,6 +31,8 @@ use Rattle.planner.specs.declared.Walk.the-variants as walk
 use Rattle.planner.specs.declared.WalkAnswer.{WalkAnswer}
 use Rattle.planner.specs.declared.Handed.{Handed}
 use Rattle.planner.specs.declared.Handed.the-variants as handed
+use Rattle.planner.specs.declared.Copied.{Copied}
+use Rattle.planner.specs.declared.Copied.the-variants as copied
 
 -- where each relation leaves one value, there is one answer to what was checked
 answers-once :
@@ -43,12 +46,6 @@ answers-once R S one (fault k l) (fault n m) (ok c) p q = absurd q
 answers-once R S one (fault k l) (fault n m) (fault i j) p q = ap₂ fault (sym (p .0) ∙ q .0) (sym (p .1) ∙ q .1)
 
 -- `judge`
-tells-once : (P : Type 0) (b c : Bool) → Tells P b → Tells P c → b ≡ c
-tells-once P true true p q = refl
-tells-once P true false p q = absurd (q .no refl (p .yes refl))
-tells-once P false true p q = absurd (p .no refl (q .yes refl))
-tells-once P false false p q = refl
-
 verdict-tells : (v w : Verdict) → verdictOf v ≡ verdictOf w → v ≡ w
 verdict-tells verdict.Robust verdict.Robust e = refl
 verdict-tells verdict.Robust verdict.Dangerous e = absurd (let z : _≡_ {A = ℕ} 0 1 = cc in omega arith)
@@ -63,7 +60,7 @@ verdict-tells (verdict.Refused r) (verdict.Refused q) e = ap verdict.Refused (fa
 pub judge-settled : (s ls : List ℕ) (v w : Verdict) → Judged s ls v → Judged s ls w → v ≡ w
 judge-settled s ls v w p q =
     let R : Table → Bool → Type 0 = λ t. Tells (Robust₁ (jobsOf t) ls) in
-    verdict-tells v w (answers-once R R (λ t. tells-once (Robust₁ (jobsOf t) ls)) (withLevels s ls) (verdictOf v) (verdictOf w) p q)
+    verdict-tells v w (answers-once R R (λ t. one-verdict) (withLevels s ls) (verdictOf v) (verdictOf w) p q)
 
 -- `next_danger`
 named-tells : (f g : Four) → named f ≡ named g → f ≡ g
@@ -163,35 +160,57 @@ walk-settled s ls above a b p q =
     let h = alike ls above a b (withLevels s ls) e (p .outcome) (q .outcome) (p .refused) (q .refused) in
     λ i. record { walk = w i; length = h .length-is i; chain = h .chain-is i; pairs = h .pairs-are i }
 
--- `lowest`: the answer, and each byte of the buffer afterwards
-asked-tells : (a b : Handed) → askedOf a ≡ askedOf b → a ≡ b
-asked-tells (handed.Asked n) (handed.Asked m) e = let d : n ≡ m = cc in ap handed.Asked d
-asked-tells (handed.Asked n) (handed.Refused r) e = absurd (let z : _≡_ {A = ℕ} 0 1 = cc in omega arith)
-asked-tells (handed.Refused r) (handed.Asked m) e = absurd (let z : _≡_ {A = ℕ} 0 1 = cc in omega arith)
-asked-tells (handed.Refused r) (handed.Refused q) e = ap handed.Refused (fault-tells {A = ℕ} r q e)
+-- a number with an answer buffer: the answer, and each byte of the buffer afterwards
+buffer-settled :
+    (R : Table → (before after : List ℕ) → ℕ → Type 0) (s before x y : List ℕ)
+    → ((t : Table) (n m : ℕ) → R t before x n → R t before y m → (x ≡ y) × (n ≡ m))
+    → (a b : Step ℕ) → InBuffer R s before x a → InBuffer R s before y b → (a ≡ b) × (x ≡ y)
+buffer-settled R s before x y once a b p q = cases (withRoom s (length before)) a b (p .outcome) (q .outcome) (p .refused) (q .refused)
+  where
+    cases :
+        (r : Step Table) (a b : Step ℕ) → Answers (λ t. R t before x) r a → Answers (λ t. R t before y) r b
+        → ((number place : ℕ) → a ≡ fault number place → x ≡ before) → ((number place : ℕ) → b ≡ fault number place → y ≡ before)
+        → (a ≡ b) × (x ≡ y)
+    cases (ok t) (ok n) (ok m) h k f g = let one = once t n m h k in (ap ok (one .1), one .0)
+    cases (ok t) (ok n) (fault i j) h k f g = absurd k
+    cases (ok t) (fault i j) b h k f g = absurd h
+    cases (fault i j) (ok n) b h k f g = absurd h
+    cases (fault i j) (fault n p) (ok m) h k f g = absurd k
+    cases (fault i j) (fault n p) (fault m q) h k f g = (ap₂ fault (sym (h .0) ∙ k .0) (sym (h .1) ∙ k .1), f n p refl ∙ sym (g m q refl))
 
-buffer-once : (js : Jobs form1) (before x y : List ℕ) (n m : ℕ) → Lowers form1 js before x n → Lowers form1 js before y m → x ≡ y
-buffer-once js before x y n m p q =
-    sym (take-append-drop (length js) x)
-    ∙ ap₂ _++_ (one-lowest₁ js (take (length js) x) (take (length js) y) (p .lowest) (q .lowest)) (p .kept ∙ sym (q .kept))
-    ∙ take-append-drop (length js) y
+-- an enum of a number or a refusal: which of them a is, and what it tells
+pub data Numbered {A : Type 0} (number : ℕ → A) (turned : Refusal → A) (told : A → Step ℕ) (a : A) : Type 0 where
+  numbered : (n : ℕ) → a ≡ number n → told a ≡ ok n → Numbered number turned told a
+  refused : (r : Refusal) → a ≡ turned r → told a ≡ faultOf r → Numbered number turned told a
 
-module _ (s before x y : List ℕ) (a b : Handed) (p : LowestHanded s before x a) (q : LowestHanded s before y b) where
-  pub lowest-settled : a ≡ b
-  lowest-settled =
-      asked-tells a b
-      (answers-once (λ t. Lowers form1 (jobsOf t) before x) (λ t. Lowers form1 (jobsOf t) before y) (λ t k l h i. one-asked₁ (jobsOf t) k l (h .number) (i .number))
-      (withRoom s (length before)) (askedOf a) (askedOf b) (p .outcome) (q .outcome))
+numbered-tells :
+    {A : Type 0} (number : ℕ → A) (turned : Refusal → A) (told : A → Step ℕ) (a b : A)
+    → Numbered number turned told a → Numbered number turned told b → told a ≡ told b → a ≡ b
+numbered-tells number turned told a b (numbered n p f) (numbered m q g) e = let d : n ≡ m = cc in p ∙ ap number d ∙ sym q
+numbered-tells number turned told a b (numbered n p f) (refused r q g) e = absurd (let z : _≡_ {A = ℕ} 0 1 = cc in omega arith)
+numbered-tells number turned told a b (refused r p f) (numbered m q g) e = absurd (let z : _≡_ {A = ℕ} 0 1 = cc in omega arith)
+numbered-tells number turned told a b (refused r p f) (refused l q g) e = p ∙ ap turned (fault-tells {A = ℕ} r l (sym f ∙ e ∙ g)) ∙ sym q
 
-  pub buffer-settled : x ≡ y
-  buffer-settled = cases a b lowest-settled (withRoom s (length before)) (p .outcome) (q .outcome) (p .refused) (q .refused)
-    where
-      cases :
-          (a b : Handed) → a ≡ b → (r : Step Table)
-          → Answers (λ t. Lowers form1 (jobsOf t) before x) r (askedOf a) → Answers (λ t. Lowers form1 (jobsOf t) before y) r (askedOf b)
-          → ((r : Refusal) → a ≡ handed.Refused r → x ≡ before) → ((r : Refusal) → b ≡ handed.Refused r → y ≡ before) → x ≡ y
-      cases (handed.Asked n) (handed.Asked m) e (ok t) h k f g = buffer-once (jobsOf t) before x y n m h k
-      cases (handed.Asked n) (handed.Asked m) e (fault i j) h k f g = absurd h
-      cases (handed.Asked n) (handed.Refused r) e t h k f g = absurd (let z : _≡_ {A = ℕ} 0 1 = cc in omega arith)
-      cases (handed.Refused r) (handed.Asked m) e t h k f g = absurd (let z : _≡_ {A = ℕ} 0 1 = cc in omega arith)
-      cases (handed.Refused r) (handed.Refused q) e t h k f g = f r refl ∙ sym (g q refl)
+-- `lowest`
+pub asked-numbered : (a : Handed) → Numbered handed.Asked handed.Refused askedOf a
+asked-numbered (handed.Asked n) = numbered n refl refl
+asked-numbered (handed.Refused r) = refused r refl refl
+
+pub lowest-settled : (s before x y : List ℕ) (a b : Handed) → LowestHanded s before x a → LowestHanded s before y b → (a ≡ b) × (x ≡ y)
+lowest-settled s before x y a b p q =
+    let R : Table → (before after : List ℕ) → ℕ → Type 0 = λ t. Lowers form1 (jobsOf t) in
+    let one = buffer-settled R s before x y (λ t. one-lowering form1 (jobsOf t) before x y) _ _ p q in
+    (numbered-tells _ _ _ a b (asked-numbered a) (asked-numbered b) (one .0), one .1)
+
+-- `own_levels`
+pub copied-numbered : (a : Copied) → Numbered copied.Jobs copied.Refused copiedOf a
+copied-numbered (copied.Jobs n) = numbered n refl refl
+copied-numbered (copied.Refused r) = refused r refl refl
+
+one-copy : (t : Table) (before x y : List ℕ) (n m : ℕ) → Copies t before x n → Copies t before y m → (x ≡ y) × (n ≡ m)
+one-copy t before x y n m p q = (same-bytes (t .jobs) x y (p .levels ∙ sym (q .levels)) (p .kept ∙ sym (q .kept)), p .number ∙ sym (q .number))
+
+pub levels-settled : (s before x y : List ℕ) (a b : Copied) → LevelsCopied s before x a → LevelsCopied s before y b → (a ≡ b) × (x ≡ y)
+levels-settled s before x y a b p q =
+    let one = buffer-settled Copies s before x y (λ t. one-copy t before x y) _ _ p q in
+    (numbered-tells _ _ _ a b (copied-numbered a) (copied-numbered b) (one .0), one .1)

@@ -1,8 +1,8 @@
-// The check of a list of levels (document 01, "Reasons for turning a call down", 13 and 14).
+// The checks of a list of levels and of an answer buffer (document 01, "Reasons for turning a call down", 13 to 15).
 use sheet::Reason;
 use sheet::Refusal;
 ghost use mathlib.Core.Path.{_≡_};
-ghost use Rattle.planner.specs.Checks.{checkedOf, levelsAt};
+ghost use Rattle.planner.specs.Checks.{checkedOf, levelsAt, roomAt};
 
 // The highest level that is offered: SSI.
 const TOP: u8 = 2;
@@ -32,6 +32,19 @@ pub fn check_levels(jobs: usize, levels: &[u8]) -> Checked
             });
         }
         i += 1;
+    }
+    Checked::Passed
+}
+
+// A place for each job in an answer buffer of this length.
+pub fn check_room(jobs: usize, room: usize) -> Checked
+    ensures { λ r. ⌜ checkedOf r ≡ roomAt jobs room ⌝ }
+{
+    if room < jobs {
+        return Checked::Refused(Refusal {
+            place: 0,
+            reason: Reason::Room,
+        });
     }
     Checked::Passed
 }

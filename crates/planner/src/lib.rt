@@ -1,16 +1,17 @@
 // The questions that outsiders ask (document 01, "What the planner takes and gives"). None has a `requires`: it refuses.
 pub mod levels;
+pub mod rows;
 pub mod steps;
 mod tables;
 
 use levels::Checked;
 use levels::check_levels;
+use levels::check_room;
 use sheet::Reading;
-use sheet::Reason;
 use sheet::Refusal;
 use walk::four::Four;
 ghost use mathlib.Core.Path.{_≡_};
-ghost use Rattle.planner.specs.Questions.{Judged, Walked, NoChain, LowestHanded};
+ghost use Rattle.planner.specs.Questions.{Judged, Walked, NoChain, LowestHanded, LevelsCopied};
 
 // Whether a sheet is robust against a list of levels.
 pub enum Verdict {
@@ -38,6 +39,12 @@ pub struct WalkAnswer {
 // The number asked, the lowest levels being in the answer buffer.
 pub enum Handed {
     Asked(u32),
+    Refused(Refusal),
+}
+
+// The number of jobs, the levels that the sheet itself names being in the answer buffer.
+pub enum Copied {
+    Jobs(u32),
     Refused(Refusal),
 }
 
@@ -113,11 +120,9 @@ pub fn lowest(sheet: &[u8], answer: &mut [u8]) -> Handed
         return Handed::Refused(r);
     }
     let jobs = read.table.jobs;
-    if answer.len() < jobs {
-        return Handed::Refused(Refusal {
-            place: 0,
-            reason: Reason::Room,
-        });
+    let checked = check_room(jobs, answer.len());
+    if let Checked::Refused(r) = checked {
+        return Handed::Refused(r);
     }
     Handed::Asked(tables::find_lowest(
         jobs,
@@ -126,4 +131,23 @@ pub fn lowest(sheet: &[u8], answer: &mut [u8]) -> Handed
         &read.table.object,
         answer,
     ))
+}
+
+// Which levels does the sheet itself name?
+pub fn own_levels(sheet: &[u8], answer: &mut [u8]) -> Copied
+    ensures { λ a. ⌜ LevelsCopied (now (sheet .entry)) (now (answer .entry)) (now (answer .exit)) a ⌝ }
+{
+    let read = sheet::read_sheet(sheet);
+    let reading = read.reading;
+    if let Reading::Refused(r) = reading {
+        return Copied::Refused(r);
+    }
+    let jobs = read.table.jobs;
+    let checked = check_room(jobs, answer.len());
+    if let Checked::Refused(r) = checked {
+        return Copied::Refused(r);
+    }
+    tables::copy_levels(jobs, &read.table.level, answer);
+    let number = jobs as u32;
+    Copied::Jobs(number)
 }

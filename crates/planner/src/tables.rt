@@ -1,10 +1,12 @@
 // The questions about a table that a sheet was read into. The sets of jobs that conflict are worked out here, in a frame of their own.
 use crate::WalkAnswer;
+use crate::rows::put;
 use crate::steps::next_of;
 use walk::four::Four;
 ghost use mathlib.Core.Path.{_≡_};
+ghost use mathlib.Core.List.{_++_};
 ghost use Prim.Native.Nat.{_≤_};
-ghost use lib.ListN.{length};
+ghost use lib.ListN.{length, take, drop};
 ghost use Rattle.theory.specs.Form1.{form1};
 ghost use Rattle.theory.specs.Planner.{Robust₁};
 ghost use Rattle.sheet.specs.Step.{ok};
@@ -121,4 +123,12 @@ pub fn find_lowest<'a>(
         &mut clash,
     );
     verdict::lowest::find_lowest(jobs, kind, &writers, &ww, &rw, &wr, &clash, answer)
+}
+
+// The levels that a sheet names for its jobs, to the first bytes of `answer`.
+pub fn copy_levels(jobs: usize, level: &[u8], answer: &mut [u8])
+    requires { ⌜ (jobs ≤ length (now level)) × (jobs ≤ length (now answer)) ⌝ }
+    ensures { λ _. ⌜ now (answer .exit) ≡ take jobs (now (level .entry)) ++ drop jobs (now (answer .entry)) ⌝ }
+{
+    put(&level[..jobs], 0, answer);
 }

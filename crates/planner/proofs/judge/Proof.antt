@@ -1,21 +1,22 @@
 use mathlib.Core.Bool.{true, false}
 use borrow.Author.Needs.{needs}
 use Rattle.sheet.specs.AnswerLaws.{answer-read, answer-refused}
-use Rattle.planner.proofs.AnswerLaws.{answers-refused, answers-passed, levels-sheet, levels-refused, ready, read-stands}
+use Rattle.planner.specs.Checks.{levelsAt}
+use Rattle.planner.proofs.AnswerLaws.{answers-refused, answers-passed, sheet-refused, check-refused, ready, read-stands}
 use Rattle.planner.proofs.judge.Statement.{statement}
 use Rattle.planner.proofs.judge.Tie as tie
 
 not-a-sheet : tie.Need-returns
 not-a-sheet c =
     let met = c .before .reading .given in
-    answers-refused _ _ (met .0 .0) (levels-sheet _ _ (met .0 .0) (answer-refused _ _ (c .before .before .before .read-sheet .ensures) (met .0 .0) (met .1)))
+    answers-refused _ _ (met .0 .0) (sheet-refused _ _ (met .0 .0) (answer-refused _ _ (c .before .before .before .read-sheet .ensures) (met .0 .0) (met .1)))
 
 wrong-levels : tie.Need-returns-2
 wrong-levels c =
     let met = c .before .checked .given in
     let told = c .before .before .before .before in
     answers-refused _ _ (met .0 .0)
-    (levels-refused _ _ _ (answer-read _ _ (told .before .before .read-sheet .ensures) (told .enum-told .given .1))
+    (check-refused (λ t. levelsAt (t .jobs) _) _ _ (answer-read _ _ (told .before .before .read-sheet .ensures) (told .enum-told .given .1))
     _ (c .before .before .before .check-levels .ensures) (met .0 .0) (met .1))
 
 is-robust-requires : tie.Need-is-robust-requires

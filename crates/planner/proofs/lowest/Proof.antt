@@ -1,33 +1,42 @@
 use borrow.Author.Needs.{needs}
-use Rattle.sheet.specs.AnswerLaws.{answer-read, answer-refused, answer-table}
-use Rattle.planner.proofs.AnswerLaws.{read-stands, lowest-sheet, lowest-short, lowest-handed}
+use Rattle.theory.specs.Form1.{form1}
+use Rattle.sheet.specs.Jobs.{jobsOf}
+use Rattle.sheet.specs.AnswerLaws.{answer-read, answer-refused}
+use Rattle.verdict.specs.Verdict.{Lowers}
+use Rattle.planner.specs.Checks.{roomAt}
+use Rattle.planner.proofs.AnswerLaws.{sheet-refused, check-refused, roomy, read-stands, buffer-kept, buffer-filled}
 use Rattle.planner.proofs.lowest.Statement.{statement}
 use Rattle.planner.proofs.lowest.Tie as tie
 
 not-a-sheet : tie.Need-returns
 not-a-sheet c =
     let met = c .before .reading .given in
-    lowest-sheet _ _ (met .0 .0) (answer-refused _ _ (c .before .before .before .read-sheet .ensures) (met .0 .0) (met .1))
+    buffer-kept (λ t. Lowers form1 (jobsOf t)) _ _ (met .0 .0) (sheet-refused _ _ (met .0 .0) (answer-refused _ _ (c .before .before .before .read-sheet .ensures) (met .0 .0) (met .1)))
 
 short : tie.Need-returns-2
 short c =
-    let told = c .before in
-    lowest-short _ _ _ (answer-read _ _ (told .before .before .read-sheet .ensures) (told .enum-told .given .1)) (c .if1 .taken)
+    let met = c .before .checked .given in
+    let checked = c .before .before .before in
+    let told = checked .before in
+    buffer-kept (λ t. Lowers form1 (jobsOf t)) _ _ (met .0 .0)
+    (check-refused (λ t. roomAt (t .jobs) _) _ _ (answer-read _ _ (told .before .before .read-sheet .ensures) (told .enum-told .given .1))
+    _ (checked .check-room .ensures) (met .0 .0) (met .1))
 
 find-lowest-requires : tie.Need-find-lowest-requires
 find-lowest-requires c κs =
-    let else = c .before .before .before .before in
-    let told = else .before in
-    let known = answer-table _ _ (told .before .before .read-sheet .ensures) .operations in
-    (known .jobs-most, known .objects-most, else .if1 .left)
+    let passed = c .before .before .before .before in
+    let checked = passed .before .before in
+    let told = checked .before in
+    let r = roomy _ _ _ (told .before .before .read-sheet .ensures) (told .enum-told .given .1) _ (checked .check-room .ensures) (passed .enum-told2 .given .1) in
+    (r .known .operations .jobs-most, r .known .operations .objects-most, r .enough)
 
-passed : tie.Need-returns-3
-passed c =
-    let lowest = c .before .before in
-    let else = lowest .before .before .before .before .before in
-    let told = else .before in
-    let e = answer-read _ _ (told .before .before .read-sheet .ensures) (told .enum-told .given .1) in
-    lowest-handed _ _ _ e _ _ (else .if1 .left) (lowest .find-lowest .ensures (read-stands _ (answer-table _ _ (told .before .before .read-sheet .ensures))))
+lowest : tie.Need-returns-3
+lowest c =
+    let passed = c .before .before .before .before .before .before .before in
+    let checked = passed .before .before in
+    let told = checked .before in
+    let r = roomy _ _ _ (told .before .before .read-sheet .ensures) (told .enum-told .given .1) _ (checked .check-room .ensures) (passed .enum-told2 .given .1) in
+    buffer-filled (λ t. Lowers form1 (jobsOf t)) _ _ _ r _ _ (c .before .before .find-lowest .ensures (read-stands _ (r .known)))
 
 pub lowest-spec : {M : Type 1} → statement M
 lowest-spec =
@@ -37,7 +46,10 @@ lowest-spec =
     (λ c. search needs)
     not-a-sheet
     (λ c. search needs)
+    (λ c κs. search needs)
+    (λ c. search needs)
     short
+    (λ c. search needs)
     find-lowest-requires
     (λ c. search needs)
-    passed)
+    lowest)

@@ -1,6 +1,7 @@
 use borrow.Author.Needs.{needs}
 use Rattle.sheet.specs.AnswerLaws.{answer-read, answer-refused}
-use Rattle.planner.proofs.AnswerLaws.{levels-sheet, levels-refused, ready, read-stands, walk-refused, walk-told}
+use Rattle.planner.specs.Checks.{levelsAt}
+use Rattle.planner.proofs.AnswerLaws.{sheet-refused, check-refused, ready, read-stands, walk-refused, walk-told}
 use Rattle.planner.proofs.next_danger.Statement.{statement}
 use Rattle.planner.proofs.next_danger.Tie as tie
 
@@ -8,7 +9,7 @@ not-a-sheet : tie.Need-returns
 not-a-sheet c =
     let met = c .before .before .reading .given in
     walk-refused _ _ _ _ (met .0 .0)
-    (levels-sheet _ _ (met .0 .0) (answer-refused _ _ (c .before .before .before .before .read-sheet .ensures) (met .0 .0) (met .1)))
+    (sheet-refused _ _ (met .0 .0) (answer-refused _ _ (c .before .before .before .before .read-sheet .ensures) (met .0 .0) (met .1)))
     (c .nothing-shown .ensures .0)
     (c .nothing-shown .ensures .1)
 
@@ -18,7 +19,7 @@ wrong-levels c =
     let checked = c .before .before .before .before in
     let told = checked .before in
     walk-refused _ _ _ _ (met .0 .0)
-    (levels-refused _ _ _ (answer-read _ _ (told .before .before .read-sheet .ensures) (told .enum-told .given .1)) _ (checked .check-levels .ensures) (met .0 .0) (met .1))
+    (check-refused (λ t. levelsAt (t .jobs) _) _ _ (answer-read _ _ (told .before .before .read-sheet .ensures) (told .enum-told .given .1)) _ (checked .check-levels .ensures) (met .0 .0) (met .1))
     (c .nothing-shown2 .ensures .0)
     (c .nothing-shown2 .ensures .1)
 
