@@ -39,10 +39,10 @@ static uint32_t read_job(const uint8_t *b, size_t n, size_t at, unsigned objects
     for (unsigned i = 0; i < j->count; i++) {
         size_t p = at + 5 + 3 * i;
         struct op o = { b[p], (uint16_t)two(b + p + 1) };
-        if (o.kind != 1 && o.kind != 2) return refusal(PLANNER_KIND, p);
-        if (o.object >= objects) return refusal(PLANNER_OBJECT, p + 1);
+        if (o.kind != 1 && o.kind != 2) return refusal(PLANNER_REASON_KIND, p);
+        if (o.object >= objects) return refusal(PLANNER_REASON_OBJECT, p + 1);
         for (unsigned k = 0; k < i; k++)
-            if (j->op[k].kind == o.kind && j->op[k].object == o.object) return refusal(PLANNER_TWICE, p);
+            if (j->op[k].kind == o.kind && j->op[k].object == o.object) return refusal(PLANNER_REASON_TWICE, p);
         j->op[i] = o;
     }
     return 0;
@@ -299,6 +299,11 @@ static uint32_t ask_read(const uint8_t *b, size_t n)
     return read_sheet(b, n, &s);
 }
 
+static uint32_t ask_levels(const uint8_t *b, size_t n, uint8_t *answer, size_t room)
+{
+    return copy_levels(ask_read(b, n), b, answer, room);
+}
+
 static uint32_t open_both(const uint8_t *b, size_t n, const uint8_t *levels, size_t m, struct sheet *s)
 {
     uint32_t fault = open_sheet(b, n, s);
@@ -328,10 +333,10 @@ static uint32_t ask_lowest(const uint8_t *b, size_t n, uint8_t *answer, size_t r
     uint8_t level[JOBS];
     uint32_t fault = open_sheet(b, n, &s);
     if (fault) return fault;
-    if (room < s.jobs) return refusal(PLANNER_ROOM, 0);
+    if (room < s.jobs) return refusal(PLANNER_REASON_ROOM, 0);
     unsigned asked = lowest(&s, level);
     memcpy(answer, level, s.jobs);
     return asked;
 }
 
-const struct side SIDE = { NAME, ask_read, ask_judge, ask_next, ask_lowest };
+const struct side SIDE = { NAME, ask_read, ask_levels, ask_judge, ask_next, ask_lowest };

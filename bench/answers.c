@@ -38,6 +38,8 @@ static void show_danger(const struct danger *d, unsigned length)
     printf("\n");
     for (unsigned i = length; i < JOBS; i++)
         if (d->chain[i] || (i > length && (d->pair[i][0] || d->pair[i][1]))) printf("no zeros behind the chain\n");
+    for (size_t i = 0; i < sizeof d->zeros; i++)
+        if (d->zeros[i]) printf("no zeros behind the pairs\n");
 }
 
 /* One step, or all of them. */
@@ -55,18 +57,21 @@ static void answer_walk(const struct side *s, const struct line *q, bool all)
     } while (all && reply > 0 && reply < PLANNER_REFUSED);
 }
 
-static void answer_lowest(const struct side *s, const struct line *q)
+typedef uint32_t (*question_of_levels)(const uint8_t *sheet, size_t n, uint8_t *answer, size_t room);
+
+/* The levels that a question writes to an answer, and what its reply counts. */
+static void answer_levels(question_of_levels ask, const struct line *q, const char *count)
 {
     static const char *const name[] = { "RC", "SI", "SSI" };
     uint8_t answer[64];
     memset(answer, UNTOUCHED, sizeof answer);
-    uint32_t reply = s->lowest(q->sheet, q->n, answer, strtoul(q->list, 0, 10));
+    uint32_t reply = ask(q->sheet, q->n, answer, strtoul(q->list, 0, 10));
     unsigned jobs = refused(reply) ? 0 : q->sheet[4];
     kept(answer, jobs, sizeof answer);
     if (reply >= PLANNER_REFUSED) return;
-    printf("lowest");
+    printf("%s", q->what);
     for (unsigned j = 0; j < jobs; j++) printf(" %s", answer[j] <= SSI ? name[answer[j]] : "?");
-    printf(" asked %u\n", reply);
+    printf(" %s %u\n", count, reply);
 }
 
 static void answer(const struct side *s, const struct line *q)
@@ -78,7 +83,9 @@ static void answer(const struct side *s, const struct line *q)
         reply = s->judge(q->sheet, q->n, q->levels, q->m);
         if (!refused(reply)) printf(reply ? "robust\n" : "not robust\n");
     } else if (!strcmp(q->what, "lowest")) {
-        answer_lowest(s, q);
+        answer_levels(s->lowest, q, "asked");
+    } else if (!strcmp(q->what, "levels")) {
+        answer_levels(s->levels, q, "jobs");
     } else {
         answer_walk(s, q, !strcmp(q->what, "walk"));
     }

@@ -3,7 +3,7 @@
 #include <string.h>
 #include "ask.h"
 
-const char *const question_name[QUESTIONS] = { "read", "judge", "lowest", "step", "walk" };
+const char *const question_name[QUESTIONS] = { "read", "levels", "judge", "lowest", "step", "walk" };
 
 size_t load(const char *path, uint8_t sheet[MOST])
 {
@@ -53,13 +53,11 @@ void prepare(struct ask *a, const char *path)
 {
     uint8_t at[4] = { 0 };
     a->n = load(path, a->sheet);
-    if (fast.read(a->sheet, a->n)) {
+    a->jobs = fast.levels(a->sheet, a->n, a->level, JOBS);
+    if (a->jobs >= PLANNER_REFUSED) {
         fprintf(stderr, "%s: not a sheet\n", path);
         exit(1);
     }
-    a->jobs = a->sheet[4];
-    size_t p = 7;
-    for (unsigned j = 0; j < a->jobs; j++) a->level[j] = a->sheet[p + 3], p += 5 + 3 * (size_t)a->sheet[p + 4];
     a->dangers = walk(&fast, a);
     a->steps = 0;
     for (unsigned i = 0, next = 0; i <= a->dangers; i++) {
@@ -77,6 +75,7 @@ void put(const struct ask *a)
     uint8_t answer[JOBS];
     switch (a->question) {
     case READ: s->read(a->sheet, a->n); break;
+    case LEVELS: s->levels(a->sheet, a->n, answer, JOBS); break;
     case JUDGE: s->judge(a->sheet, a->n, a->level, a->jobs); break;
     case LOWEST: s->lowest(a->sheet, a->n, answer, JOBS); break;
     case STEP: take_steps(s, a); break;

@@ -4,7 +4,7 @@
 #include <stdbool.h>
 #include "sides.h"
 
-enum question { READ, JUDGE, LOWEST, STEP, WALK, QUESTIONS };
+enum question { READ, LEVELS, JUDGE, LOWEST, STEP, WALK, QUESTIONS };
 extern const char *const question_name[QUESTIONS];
 
 enum { MOST = 4096, STEPS = 16 };

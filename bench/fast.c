@@ -54,10 +54,10 @@ static uint32_t take_near(const uint8_t *b, size_t p, unsigned j, unsigned k, st
     uint16_t *op = t->op[j];
     for (unsigned i = 0; i < k; i++, p += 3) {
         unsigned kind = b[p], o = two(b + p + 1);
-        if (kind - 1 > 1) return refusal(PLANNER_KIND, p);
-        if (o >= objects) return refusal(PLANNER_OBJECT, p + 1);
+        if (kind - 1 > 1) return refusal(PLANNER_REASON_KIND, p);
+        if (o >= objects) return refusal(PLANNER_REASON_OBJECT, p + 1);
         uint32_t *set = sets[kind - 1] + o, was = *set;
-        if (was & me) return refusal(PLANNER_TWICE, p);
+        if (was & me) return refusal(PLANNER_REASON_TWICE, p);
         *set = was | me;
         op[i] = (uint16_t)(o | (kind - 1) << 15);
     }
@@ -73,8 +73,8 @@ static uint32_t take_far(const uint8_t *b, size_t p, unsigned j, unsigned k, str
     for (unsigned i = 0; i < k; i++, p += 3) {
         unsigned kind = b[p], o = two(b + p + 1);
         t->count[j] = (uint8_t)i;
-        if (kind - 1 > 1) return refusal(PLANNER_KIND, p);
-        if (o >= objects) return refusal(PLANNER_OBJECT, p + 1);
+        if (kind - 1 > 1) return refusal(PLANNER_REASON_KIND, p);
+        if (o >= objects) return refusal(PLANNER_REASON_OBJECT, p + 1);
         named[o >> 5] |= bit(o & 31);
         op[i] = (uint16_t)(o | (kind - 1) << 15);
     }
@@ -120,7 +120,7 @@ static APART uint32_t take_ranked(const uint8_t *b, size_t n, struct table *t)
         for (unsigned i = 0; i < t->count[j]; i++, p += 3) {
             unsigned o = t->op[j][i], w = (o & ID) >> 5, id = base[w] + ones(named[w] & (bit(o & 31) - 1));
             uint32_t *set = (o & WRITE ? t->writes : t->reads) + id;
-            if (*set & bit(j)) return refusal(PLANNER_TWICE, p);
+            if (*set & bit(j)) return refusal(PLANNER_REASON_TWICE, p);
             *set |= bit(j);
             t->op[j][i] = (uint16_t)((o & WRITE) | id);
         }
@@ -462,6 +462,11 @@ static uint32_t ask_read(const uint8_t *b, size_t n)
     return take(b, n, &t);
 }
 
+static uint32_t ask_levels(const uint8_t *b, size_t n, uint8_t *answer, size_t room)
+{
+    return copy_levels(ask_read(b, n), b, answer, room);
+}
+
 static uint32_t ask_judge(const uint8_t *b, size_t n, const uint8_t *levels, size_t m)
 {
     struct table t;
@@ -484,7 +489,7 @@ static uint32_t ask_lowest(const uint8_t *b, size_t n, uint8_t *answer, size_t r
     struct table t;
     uint32_t fault = take(b, n, &t);
     if (fault) return fault;
-    return room < t.jobs ? refusal(PLANNER_ROOM, 0) : find_lowest(&t, answer);
+    return room < t.jobs ? refusal(PLANNER_REASON_ROOM, 0) : find_lowest(&t, answer);
 }
 
-const struct side fast = { "fast", ask_read, ask_judge, ask_next, ask_lowest };
+const struct side fast = { "fast", ask_read, ask_levels, ask_judge, ask_next, ask_lowest };

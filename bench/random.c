@@ -69,6 +69,7 @@ static void ask_about(FILE *q, const char *name, const struct sheet *s)
     own_levels(s, levels);
     fprintf(q, "%s walk %s\n", name, levels);
     fprintf(q, "%s lowest %u\n", name, below(6) ? 32 : below(33));
+    fprintf(q, "%s levels %u\n", name, below(6) ? 32 : below(33));
     other_levels(s, levels);
     fprintf(q, "%s judge %s\n", name, levels);
     other_levels(s, levels);

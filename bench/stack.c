@@ -36,7 +36,7 @@ static unsigned touched(const struct ask *a, double limit)
 /* A side that does nothing: what `put` itself takes. */
 static uint32_t no_read(const uint8_t *b, size_t n) { return (void)b, (void)n, 0; }
 static uint32_t no_judge(const uint8_t *b, size_t n, const uint8_t *l, size_t m) { return (void)b, no_read(l, n + m); }
-static uint32_t no_lowest(const uint8_t *b, size_t n, uint8_t *l, size_t m) { return no_judge(b, n, l, m); }
+static uint32_t no_answer(const uint8_t *b, size_t n, uint8_t *l, size_t m) { return no_judge(b, n, l, m); }
 static uint32_t no_next(const uint8_t *b, size_t n, const uint8_t *l, size_t m, uint8_t t1, uint8_t b1, uint8_t t2,
                         uint8_t tm, uint8_t *found)
 {
@@ -44,7 +44,7 @@ static uint32_t no_next(const uint8_t *b, size_t n, const uint8_t *l, size_t m, 
     return no_judge(b, n, l, m);
 }
 
-static const struct side idle = { "idle", no_read, no_judge, no_next, no_lowest };
+static const struct side idle = { "idle", no_read, no_answer, no_judge, no_next, no_answer };
 
 static unsigned beyond_put(struct ask *a, const struct side *s, double limit)
 {

@@ -1,5 +1,6 @@
 /* The planner called from C. A sheet whose head declares 40 jobs is refused by every question and no lent byte changes;
- * then two sheets of document 01 are judged, walked and given their lowest levels. */
+ * then two sheets of document 01 are read, judged and walked under their own levels, and given their lowest levels, as
+ * the program `survey` does. */
 #include <stdio.h>
 #include <string.h>
 #include "asmeluka.h"
@@ -7,7 +8,7 @@
 enum { ROOM = 4, UNTOUCHED = 0xEE };
 
 /* All that is lent to the planner. */
-struct lent { uint8_t sheet[64], levels[PLANNER_JOBS], found[PLANNER_FOUND], answer[ROOM]; };
+struct lent { uint8_t sheet[64], levels[PLANNER_MAX_JOBS], found[PLANNER_FOUND], answer[ROOM]; };
 
 static void show_bytes(const char *name, const uint8_t *bytes, size_t n)
 {
@@ -21,23 +22,24 @@ static void show_refusal(const char *question, uint32_t reply)
     printf("%s: refused %u at %u\n", question, (unsigned)planner_reason(reply), (unsigned)planner_place(reply));
 }
 
-static void lend(struct lent *l, const uint8_t *sheet, size_t n, const uint8_t *levels, size_t jobs)
+static void lend(struct lent *l, const uint8_t *sheet, size_t n)
 {
     memset(l, UNTOUCHED, sizeof *l);
     memcpy(l->sheet, sheet, n);
-    memcpy(l->levels, levels, jobs);
 }
 
 static void show_forty(const uint8_t *sheet, size_t n)
 {
-    static const uint8_t levels[2] = { PLANNER_RC, PLANNER_SI };
     struct lent l, before;
-    lend(&l, sheet, n, levels, 2);
+    lend(&l, sheet, n);
+    l.levels[0] = PLANNER_RC;
+    l.levels[1] = PLANNER_SI;
     l.sheet[4] = 40;
     before = l;
     show_bytes("sheet ", before.sheet, n);
     show_bytes("answer", before.answer, ROOM);
     show_refusal("read", planner_read(l.sheet, n));
+    show_refusal("levels", planner_levels(l.sheet, n, l.answer, ROOM));
     show_refusal("judge", planner_judge(l.sheet, n, l.levels, 2));
     show_refusal("next", planner_next(l.sheet, n, l.levels, 2, 0, 0, 0, 0, l.found));
     show_refusal("lowest", planner_lowest(l.sheet, n, l.answer, ROOM));
@@ -78,11 +80,17 @@ static void show_walk(struct lent *l, size_t n, size_t jobs)
     printf("end\n");
 }
 
-static void show_plan(const uint8_t *sheet, size_t n, const uint8_t *levels, size_t jobs)
+static void show_plan(const uint8_t *sheet, size_t n)
 {
     struct lent l;
-    lend(&l, sheet, n, levels, jobs);
+    lend(&l, sheet, n);
     printf("read: %u\n", (unsigned)planner_read(l.sheet, n));
+    uint32_t jobs = planner_levels(l.sheet, n, l.levels, sizeof l.levels);
+    if (jobs >= PLANNER_REFUSED) {
+        show_refusal("levels", jobs);
+        return;
+    }
+    printf("levels: %u jobs\n", (unsigned)jobs);
     show_verdict(&l, n, l.levels, jobs);
     show_walk(&l, n, jobs);
     printf("lowest: asked %u\n", (unsigned)planner_lowest(l.sheet, n, l.answer, ROOM));
@@ -94,26 +102,24 @@ int main(void)
 {
     /* Document 01, "The program `survey`": R0 W0 | R0 W0 at RC SI. */
     static const uint8_t shown[] = {
-        0x01, 0, 4, 1, 2, 0, 1,
-        0x02, 0, 8, PLANNER_RC, 2, 1, 0, 0, 2, 0, 0,
-        0x02, 0, 8, PLANNER_SI, 2, 1, 0, 0, 2, 0, 0,
-        0x7F, 0, 0,
+        PLANNER_TAG_HEAD, 0, 4, PLANNER_FORM_1, 2, 0, 1,
+        PLANNER_TAG_JOB, 0, 8, PLANNER_RC, 2, PLANNER_KIND_READ, 0, 0, PLANNER_KIND_WRITE, 0, 0,
+        PLANNER_TAG_JOB, 0, 8, PLANNER_SI, 2, PLANNER_KIND_READ, 0, 0, PLANNER_KIND_WRITE, 0, 0,
+        PLANNER_TAG_END, 0, 0,
     };
     /* Document 01, P9: R0 W1 | W0 W2 | R2 R1 at SI. */
     static const uint8_t p9[] = {
-        0x01, 0, 4, 1, 3, 0, 3,
-        0x02, 0, 8, PLANNER_SI, 2, 1, 0, 0, 2, 0, 1,
-        0x02, 0, 8, PLANNER_SI, 2, 2, 0, 0, 2, 0, 2,
-        0x02, 0, 8, PLANNER_SI, 2, 1, 0, 2, 1, 0, 1,
-        0x7F, 0, 0,
+        PLANNER_TAG_HEAD, 0, 4, PLANNER_FORM_1, 3, 0, 3,
+        PLANNER_TAG_JOB, 0, 8, PLANNER_SI, 2, PLANNER_KIND_READ, 0, 0, PLANNER_KIND_WRITE, 0, 1,
+        PLANNER_TAG_JOB, 0, 8, PLANNER_SI, 2, PLANNER_KIND_WRITE, 0, 0, PLANNER_KIND_WRITE, 0, 2,
+        PLANNER_TAG_JOB, 0, 8, PLANNER_SI, 2, PLANNER_KIND_READ, 0, 2, PLANNER_KIND_READ, 0, 1,
+        PLANNER_TAG_END, 0, 0,
     };
-    static const uint8_t shown_levels[] = { PLANNER_RC, PLANNER_SI };
-    static const uint8_t p9_levels[] = { PLANNER_SI, PLANNER_SI, PLANNER_SI };
     printf("A head that declares 40 jobs\n");
     show_forty(shown, sizeof shown);
     printf("\nR0 W0 | R0 W0\n");
-    show_plan(shown, sizeof shown, shown_levels, 2);
+    show_plan(shown, sizeof shown);
     printf("\nR0 W1 | W0 W2 | R2 R1\n");
-    show_plan(p9, sizeof p9, p9_levels, 3);
+    show_plan(p9, sizeof p9);
     return 0;
 }

@@ -22,15 +22,13 @@ use Rattle.sheet.specs.declared.ReadAnswer.{ReadAnswer}
 use Rattle.sheet.specs.declared.Table.{Table}
 use Rattle.theory.specs.Walk as theory
 use Rattle.walk.specs.declared.four.Four.{Four}
-use Rattle.planner.specs.Checks.{noneAbove, levelsAt, withLevels, withRoom}
-use Rattle.planner.specs.Questions.{Answers, Judged, Walks, walkOf, Walked, LowestHanded}
+use Rattle.planner.specs.Checks.{noneAbove, levelsAt, roomAt, sheetWith, withLevels, withRoom}
+use Rattle.planner.specs.Questions.{Answers, Judged, Walks, walkOf, Walked, InBuffer}
 use Rattle.planner.specs.declared.Verdict.{Verdict}
 use Rattle.planner.specs.declared.Verdict.the-variants as verdict
 use Rattle.planner.specs.declared.Walk.{Walk}
 use Rattle.planner.specs.declared.Walk.the-variants as walk
 use Rattle.planner.specs.declared.WalkAnswer.{WalkAnswer}
-use Rattle.planner.specs.declared.Handed.{Handed}
-use Rattle.planner.specs.declared.Handed.the-variants as handed
 
 -- small enough to stand beside a number in one reply
 abbrev pub Near : ℕ → Type 0
@@ -61,17 +59,22 @@ levels-near jobs ls few =
     ends-refuse Any Near (not (eqb (length ls) jobs)) 13 0 _ (omega arith) λ same.
     let long = eqb-true (length ls) jobs (not-false _ same) in none-near 2 0 ls (omega arith)
 
-pub with-levels-near : (s ls : List ℕ) → Ends ReadTable Near (withLevels s ls)
-unfolding withLevels
-with-levels-near s ls =
+room-near : (jobs room : ℕ) → Ends Any Near (roomAt jobs room)
+unfolding roomAt
+room-near jobs room = ends-refuse Any Near (ltb room jobs) 15 0 _ (omega arith) λ _. ends-ok Any Near tt tt
+
+sheet-with-near :
+    (check : Table → Step (Unit {0})) (s : List ℕ) → ((t : Table) → ReadTable t → Ends Any Near (check t)) → Ends ReadTable Near (sheetWith check s)
+unfolding sheetWith
+sheet-with-near check s near =
     ends-next ReadTable Near ReadTable (sheetOf s) _ (sheet-near s) λ t known.
-    ends-next ReadTable Near Any (levelsAt (t .jobs) ls) _ (levels-near (t .jobs) ls (known .operations .jobs-most)) λ _ _. ends-ok ReadTable Near t known
+    ends-next ReadTable Near Any (check t) _ (near t known) λ _ _. ends-ok ReadTable Near t known
+
+pub with-levels-near : (s ls : List ℕ) → Ends ReadTable Near (withLevels s ls)
+with-levels-near s ls = sheet-with-near (λ t. levelsAt (t .jobs) ls) s λ t known. levels-near (t .jobs) ls (known .operations .jobs-most)
 
 pub with-room-near : (s : List ℕ) (room : ℕ) → Ends ReadTable Near (withRoom s room)
-unfolding withRoom
-with-room-near s room =
-    ends-next ReadTable Near ReadTable (sheetOf s) _ (sheet-near s) λ t known.
-    ends-refuse ReadTable Near (ltb room (t .jobs)) 15 0 _ (omega arith) λ _. ends-ok ReadTable Near t known
+with-room-near s room = sheet-with-near (λ t. roomAt (t .jobs) room) s λ t known. room-near (t .jobs) room
 
 -- a refusal is the fault that was met, and an accepted answer was asked of what passed
 module _ {A B : Type 0} (P : A → Type 0) (Q : ℕ → Type 0) (R : A → B → Type 0) where
@@ -97,6 +100,8 @@ next-near s ls above a r h e =
     let R : Table → theory.Answer → Type 0 = λ t. Walks ls above a (jobsOf t) in
     refused-at ReadTable Near R (withLevels s ls) r (with-levels-near s ls) (subst (λ (w : Walk). Answers R (withLevels s ls) (walkOf w)) e (h .outcome))
 
-pub lowest-near : (s before after : List ℕ) (a : Handed) (r : Refusal) → LowestHanded s before after a → a ≡ handed.Refused r → Near (r .place)
-lowest-near s before after a r h e =
-    refused-at ReadTable Near _ (withRoom s (length before)) r (with-room-near s (length before)) (rw e at (h .outcome))
+pub buffer-near :
+    (R : Table → (before after : List ℕ) → ℕ → Type 0) (s before after : List ℕ) (a : Step ℕ) (r : Refusal)
+    → InBuffer R s before after a → a ≡ faultOf r → Near (r .place)
+buffer-near R s before after a r h e =
+    refused-at ReadTable Near (λ t. R t before after) (withRoom s (length before)) r (with-room-near s (length before)) (rw e at (h .outcome))

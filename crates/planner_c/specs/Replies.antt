@@ -3,6 +3,7 @@
 use Prim.Native.Nat.{ℕ, _+_, _*_, _/_, _%_, _≤_, _<_}
 use mathlib.Core.Path.{_≡_}
 use mathlib.Core.List.{List, _∷_, _++_}
+use lib.ListN.{replicate}
 use Rattle.sheet.specs.Step.{Step, ok, fault}
 use Rattle.sheet.specs.Answer.{numberOf, Answered}
 use Rattle.sheet.specs.declared.Refusal.{Refusal}
@@ -10,14 +11,14 @@ use Rattle.sheet.specs.declared.Reading.{Reading}
 use Rattle.sheet.specs.declared.Reading.the-variants as reading
 use Rattle.sheet.specs.declared.ReadAnswer.{ReadAnswer}
 use Rattle.walk.specs.declared.four.Four.{Four}
-use Rattle.planner.specs.Questions.{Judged, Walked, LowestHanded}
+use Rattle.planner.specs.Questions.{Judged, Walked, askedOf, LowestHanded, copiedOf, LevelsCopied}
 use Rattle.planner.specs.declared.Verdict.{Verdict}
 use Rattle.planner.specs.declared.Verdict.the-variants as verdict
 use Rattle.planner.specs.declared.Walk.{Walk}
 use Rattle.planner.specs.declared.Walk.the-variants as walk
 use Rattle.planner.specs.declared.WalkAnswer.{WalkAnswer}
 use Rattle.planner.specs.declared.Handed.{Handed}
-use Rattle.planner.specs.declared.Handed.the-variants as handed
+use Rattle.planner.specs.declared.Copied.{Copied}
 
 abbrev pub codeOf : Refusal → ℕ
 codeOf r = numberOf (r .reason) * 65536 + r .place
@@ -52,9 +53,9 @@ stepCode (walk.Refused r) jobs = codeOf r
 abbrev pub walkCode : WalkAnswer → ℕ
 walkCode a = stepCode (a .walk) (a .length)
 
--- the bytes of `found`: the danger's four numbers, the chain, the pairs; as they were where no danger is shown
+-- the bytes of `found`: the danger's four numbers, the chain, the pairs, zeros to 128 bytes; as they were where no danger is shown
 abbrev pub stepBytes : Walk → (chain pairs before : List ℕ) → List ℕ
-stepBytes (walk.Found f) chain pairs before = f .t1 ∷ f .b1 ∷ f .t2 ∷ f .tm ∷ (chain ++ pairs)
+stepBytes (walk.Found f) chain pairs before = f .t1 ∷ f .b1 ∷ f .t2 ∷ f .tm ∷ (chain ++ pairs ++ replicate 28 0)
 stepBytes walk.End chain pairs before = before
 stepBytes (walk.Refused r) chain pairs before = before
 
@@ -67,15 +68,22 @@ pub record NextReply (s ls : List ℕ) (above : Four) (before after : List ℕ) 
   pub reply : n ≡ walkCode answer
   pub bytes : after ≡ foundIn answer before
 
--- `planner_lowest`
-abbrev pub askedCode : Handed → ℕ
-askedCode (handed.Asked n) = n
-askedCode (handed.Refused r) = codeOf r
+-- a number or a refusal
+abbrev pub numberCode : Step ℕ → ℕ
+numberCode (ok n) = n
+numberCode (fault number place) = number * 65536 + place
 
+-- `planner_lowest`: the number asked
 pub record LowestReply (s before after : List ℕ) (n : ℕ) : Type 0 where
   pub handed : Handed
   pub promised : LowestHanded s before after handed
-  pub reply : n ≡ askedCode handed
+  pub reply : n ≡ numberCode (askedOf handed)
+
+-- `planner_levels`: the number of jobs
+pub record LevelsReply (s before after : List ℕ) (n : ℕ) : Type 0 where
+  pub copied : Copied
+  pub promised : LevelsCopied s before after copied
+  pub reply : n ≡ numberCode (copiedOf copied)
 
 -- what a caller learns of the checks from a reply alone: passed, or the fault's number and place
 abbrev pub Told : {A : Type 0} → Step A → ℕ → Type 0

@@ -22,17 +22,16 @@ use Rattle.sheet.specs.Jobs.{jobsOf}
 use Rattle.sheet.specs.JobsLaws.{jobs-length}
 use Rattle.sheet.specs.ReadTable.{ReadTable}
 use Rattle.sheet.specs.declared.Table.{Table}
+use Rattle.verdict.specs.Verdict.{Lowers}
 use Rattle.walk.specs.Answers.{named}
 use Rattle.walk.specs.declared.four.Four.{Four}
-use Rattle.planner.specs.Checks.{withLevels, withRoom}
-use Rattle.planner.specs.Questions.{Answers, ChainBeside, Walks, walkOf, Walked, LowestHanded}
+use Rattle.planner.specs.Checks.{withLevels}
+use Rattle.planner.specs.Questions.{Answers, ChainBeside, Walks, walkOf, Walked, Copies}
 use Rattle.planner.specs.declared.Walk.{Walk}
 use Rattle.planner.specs.declared.Walk.the-variants as walk
 use Rattle.planner.specs.declared.WalkAnswer.{WalkAnswer}
-use Rattle.planner.specs.declared.Handed.{Handed}
-use Rattle.planner.specs.declared.Handed.the-variants as handed
 use Rattle.planner_c.specs.Replies.{codeOf, Told}
-use Rattle.planner_c.specs.PlaceLaws.{Near, with-levels-near, with-room-near, accepted-of}
+use Rattle.planner_c.specs.PlaceLaws.{Near, with-levels-near, accepted-of}
 
 -- the document's numbers go from 1 to 15
 pub number-in : (r : Reason) → (1 ≤ numberOf r) × (numberOf r ≤ 15)
@@ -75,7 +74,9 @@ next-few s ls above a f h e =
     let few = chain-few (jobsOf (o .0)) ls (named f) a (o .2 .1) in
     (few .0, omega (arith, jobs-few (o .0) (o .1)))
 
-pub lowest-few : (s before after : List ℕ) (a : Handed) (n : ℕ) → LowestHanded s before after a → a ≡ handed.Asked n → n ≤ 64
-lowest-few s before after a n h e =
-    let o = accepted-of ReadTable Near _ (withRoom s (length before)) n (with-room-near s (length before)) (rw e at (h .outcome)) in
-    asked-within₁ (jobsOf (o .0)) n (jobs-few (o .0) (o .1)) (o .2 .number)
+module _ (t : Table) (known : ReadTable t) (before after : List ℕ) (n : ℕ) where
+  pub lowest-few : Lowers form1 (jobsOf t) before after n → n < 65536
+  lowest-few h = omega (arith, asked-within₁ (jobsOf t) n (jobs-few t known) (h .number))
+
+  pub levels-few : Copies t before after n → n < 65536
+  levels-few h = omega (arith, h .number, known .operations .jobs-most)

@@ -1,37 +1,42 @@
 -- Each statement settles its reply and the lent bytes (document 01, "How firmly each call is tied down"), and a caller tells an accepted
 -- answer from a refusal, with its number and place, by the reply alone.
 -- Assumes nothing.
-use Prim.Native.Nat.{ℕ, _≤_}
+use Prim.Native.Nat.{ℕ, _≤_, _<_}
 use mathlib.Core.Path.{_≡_, refl, sym, ap, _∙_}
 use mathlib.Core.Bool.{Bool}
 use mathlib.Core.List.{List}
 use native.Mathlib.Omega.{arith}
 use lib.Dec.{lit<}
 use lib.ListN.{length}
+use Rattle.theory.specs.Form1.{form1}
 use Rattle.theory.specs.Walk as theory
 use Rattle.sheet.specs.Step.{Step, ok, fault}
 use Rattle.sheet.specs.Sheet.{sheetOf}
 use Rattle.sheet.specs.Answer.{readingOf}
 use Rattle.sheet.specs.AnswerLaws.{settled}
+use Rattle.sheet.specs.Jobs.{jobsOf}
+use Rattle.sheet.specs.ReadTable.{ReadTable}
 use Rattle.sheet.specs.declared.Refusal.{Refusal}
 use Rattle.sheet.specs.declared.Reading.{Reading}
 use Rattle.sheet.specs.declared.Reading.the-variants as reading
 use Rattle.sheet.specs.declared.ReadAnswer.{ReadAnswer}
 use Rattle.sheet.specs.declared.Table.{Table}
+use Rattle.verdict.specs.Verdict.{Lowers}
 use Rattle.walk.specs.declared.four.Four.{Four}
 use Rattle.planner.specs.Checks.{withLevels, withRoom}
-use Rattle.planner.specs.Questions.{Answers, verdictOf, walkOf, askedOf}
+use Rattle.planner.specs.Questions.{Answers, verdictOf, walkOf, InBuffer, askedOf, copiedOf, Copies}
 use Rattle.planner.specs.Settled as questions
+use Rattle.planner.specs.Settled.{Numbered, numbered, refused, asked-numbered, copied-numbered}
 use Rattle.planner.specs.declared.Verdict.{Verdict}
 use Rattle.planner.specs.declared.Verdict.the-variants as verdict
 use Rattle.planner.specs.declared.Walk.{Walk}
 use Rattle.planner.specs.declared.Walk.the-variants as walk
 use Rattle.planner.specs.declared.WalkAnswer.{WalkAnswer}
 use Rattle.planner.specs.declared.Handed.{Handed}
-use Rattle.planner.specs.declared.Handed.the-variants as handed
-use Rattle.planner_c.specs.Replies.{readCode, ReadReply, judgeCode, JudgeReply, stepCode, walkCode, foundIn, NextReply, askedCode, LowestReply, Told}
-use Rattle.planner_c.specs.ReplyLaws.{number-in, code-told, next-few, lowest-few}
-use Rattle.planner_c.specs.PlaceLaws.{Near, read-near, judge-near, next-near, lowest-near}
+use Rattle.planner.specs.declared.Copied.{Copied}
+use Rattle.planner_c.specs.Replies.{readCode, ReadReply, judgeCode, JudgeReply, stepCode, walkCode, foundIn, NextReply, numberCode, LowestReply, LevelsReply, Told}
+use Rattle.planner_c.specs.ReplyLaws.{number-in, code-told, next-few, lowest-few, levels-few}
+use Rattle.planner_c.specs.PlaceLaws.{Near, with-room-near, accepted-of, read-near, judge-near, next-near, buffer-near}
 
 -- two replies to one question are equal, and so are the lent bytes afterwards
 pub read-settled : (s : List ℕ) (n m : ℕ) → ReadReply s n → ReadReply s m → n ≡ m
@@ -52,7 +57,12 @@ next-settled s ls above before x y n m p q =
 pub lowest-settled : (s before x y : List ℕ) (n m : ℕ) → LowestReply s before x n → LowestReply s before y m → (n ≡ m) × (x ≡ y)
 lowest-settled s before x y n m p q =
     let one = questions.lowest-settled s before x y (p .handed) (q .handed) (p .promised) (q .promised) in
-    (p .reply ∙ ap askedCode one ∙ sym (q .reply), questions.buffer-settled s before x y (p .handed) (q .handed) (p .promised) (q .promised))
+    (p .reply ∙ ap (λ (a : Handed). numberCode (askedOf a)) (one .0) ∙ sym (q .reply), one .1)
+
+pub levels-settled : (s before x y : List ℕ) (n m : ℕ) → LevelsReply s before x n → LevelsReply s before y m → (n ≡ m) × (x ≡ y)
+levels-settled s before x y n m p q =
+    let one = questions.levels-settled s before x y (p .copied) (q .copied) (p .promised) (q .promised) in
+    (p .reply ∙ ap (λ (a : Copied). numberCode (copiedOf a)) (one .0) ∙ sym (q .reply), one .1)
 
 -- an answer tells of the checks what it says itself
 told : {A B : Type 0} (R : A → B → Type 0) (x : Step A) (y : Step B) (n : ℕ) → Answers R x y → Told y n → Told x n
@@ -104,15 +114,23 @@ end-told s ls above before after p = cases (p .answer .walk) (p .reply) (λ f e.
     cases walk.End e few = refl
     cases (walk.Refused r) e few = absurd (omega (arith, number-in (r .reason)))
 
+-- a number or a refusal, with an answer buffer
+module _ {A : Type 0} (number : ℕ → A) (turned : Refusal → A) (of : A → Step ℕ) (R : Table → (before after : List ℕ) → ℕ → Type 0)
+    (few : (t : Table) → ReadTable t → (before after : List ℕ) (n : ℕ) → R t before after n → n < 65536) where
+  number-told : (s before after : List ℕ) (a : A) → Numbered number turned of a → InBuffer R s before after (of a) → Told (withRoom s (length before)) (numberCode (of a))
+  number-told s before after a k h =
+      told (λ t. R t before after) (withRoom s (length before)) (of a) (numberCode (of a)) (h .outcome) (cases k)
+    where
+      cases : Numbered number turned of a → Told (of a) (numberCode (of a))
+      cases (numbered n e f) =
+          let o = accepted-of ReadTable Near (λ t. R t before after) (withRoom s (length before)) n (with-room-near s (length before)) (rw f at (h .outcome)) in
+          rw f (few (o .0) (o .1) before after n (o .2))
+      cases (refused r e f) = rw f (code-told ℕ r (buffer-near R s before after (of a) r h f))
+
 pub lowest-told : (s before after : List ℕ) (n : ℕ) → LowestReply s before after n → Told (withRoom s (length before)) n
 lowest-told s before after n p =
-    let a = p .handed in
-    rw (p .reply)
-    (told _ (withRoom s (length before)) (askedOf a) (askedCode a) (p .promised .outcome)
-    (cases a (λ k e. lowest-few s before after a k (p .promised) e) (λ r e. lowest-near s before after a r (p .promised) e)))
-  where
-    cases :
-        (a : Handed) → ((k : ℕ) → a ≡ handed.Asked k → k ≤ 64) → ((r : Refusal) → a ≡ handed.Refused r → Near (r .place))
-        → Told (askedOf a) (askedCode a)
-    cases (handed.Asked k) few near = omega (arith, few k refl)
-    cases (handed.Refused r) few near = code-told ℕ r (near r refl)
+    rw (p .reply) (number-told _ _ askedOf (λ t. Lowers form1 (jobsOf t)) lowest-few s before after (p .handed) (asked-numbered (p .handed)) (p .promised))
+
+pub levels-told : (s before after : List ℕ) (n : ℕ) → LevelsReply s before after n → Told (withRoom s (length before)) n
+levels-told s before after n p =
+    rw (p .reply) (number-told _ _ copiedOf Copies levels-few s before after (p .copied) (copied-numbered (p .copied)) (p .promised))

@@ -1,6 +1,7 @@
 // The questions for C and Rust, over numbers and byte slices alone (include/asmeluka.h). A refusal is its number times 65536 and its place.
 mod found;
 
+use planner::Copied;
 use planner::Handed;
 use planner::Verdict;
 use planner::Walk;
@@ -9,7 +10,7 @@ use sheet::Refusal;
 use walk::four::Four;
 ghost use mathlib.Core.Path.{_≡_};
 ghost use Prim.Native.Nat.{_<_};
-ghost use Rattle.planner_c.specs.Replies.{codeOf, ReadReply, JudgeReply, NextReply, LowestReply};
+ghost use Rattle.planner_c.specs.Replies.{codeOf, ReadReply, JudgeReply, NextReply, LowestReply, LevelsReply};
 
 // A refusal as one number.
 fn code(r: Refusal) -> u32
@@ -49,7 +50,7 @@ pub extern "C" fn planner_judge(sheet: &[u8], levels: &[u8]) -> u32
 }
 
 // Which is the first danger above the four numbers? The number of jobs in its chain, 0 at the end, or the refusal. `found` gets the
-// danger's four numbers, 32 places for the chain's jobs and 64 for its pairs; it keeps every byte at the end and on a refusal.
+// danger's four numbers, 32 places for the chain's jobs, 64 for its pairs and 28 zeros; it keeps every byte at the end and on a refusal.
 #[no_mangle]
 pub extern "C" fn planner_next(
     sheet: &[u8],
@@ -58,7 +59,7 @@ pub extern "C" fn planner_next(
     b1: u8,
     t2: u8,
     tm: u8,
-    found: &mut [u8; 100],
+    found: &mut [u8; 128],
 ) -> u32
     ensures { λ n. ⌜
         NextReply (now (sheet .entry)) (now (levels .entry)) (record { t1 = t1; b1 = b1; t2 = t2; tm = tm }) (now (found .entry)) (now (found .exit)) n
@@ -85,5 +86,17 @@ pub extern "C" fn planner_lowest(sheet: &[u8], answer: &mut [u8]) -> u32
     match handed {
         Handed::Asked(n) => n,
         Handed::Refused(r) => code(r),
+    }
+}
+
+// Which levels does the sheet itself name? The number of jobs, the levels being in the first bytes of `answer`; or the refusal.
+#[no_mangle]
+pub extern "C" fn planner_levels(sheet: &[u8], answer: &mut [u8]) -> u32
+    ensures { λ n. ⌜ LevelsReply (now (sheet .entry)) (now (answer .entry)) (now (answer .exit)) n ⌝ }
+{
+    let copied = planner::own_levels(sheet, answer);
+    match copied {
+        Copied::Jobs(n) => n,
+        Copied::Refused(r) => code(r),
     }
 }
