@@ -1,5 +1,6 @@
 // Standard input, read a buffer at a time: what is still to be taken stands from `at` to `end` in `ahead`.
-ghost use Prim.Native.Nat.{_≤_, _<_};
+use answer_lines::wide;
+ghost use Prim.Native.Nat.{_≤_};
 ghost use mathlib.Core.Path.{_≡_};
 ghost use lib.ListN.{length};
 
@@ -29,13 +30,6 @@ pub fn byte(ahead: &mut [u8; 65536], at: &mut usize, end: &mut usize) -> Got
         return Got::End;
     }
     Got::Byte(ahead[0])
-}
-
-// A byte as a number.
-pub fn wide(x: u8) -> usize
-    ensures { λ r. ⌜ (r ≡ x) × (r < 256) ⌝ }
-{
-    x as usize
 }
 
 // Two bytes, the high one first.

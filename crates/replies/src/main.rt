@@ -1,10 +1,6 @@
 // Answers a stream of questions from standard input, one line each, for comparison with the second program (docs/REPLIES.md).
 mod input;
-mod judging;
-mod lowering;
 mod question;
-mod reading;
-mod walking;
 
 use input::Got;
 use input::Number;

@@ -4,10 +4,10 @@ use crate::input::Number;
 use crate::input::byte;
 use crate::input::fill;
 use crate::input::word;
-use crate::judging;
-use crate::lowering;
-use crate::reading;
-use crate::walking;
+use answer_lines::buffers;
+use answer_lines::judging;
+use answer_lines::reading;
+use answer_lines::walking;
 use text::put;
 ghost use Prim.Native.Nat.{_≤_};
 ghost use lib.ListN.{length};
@@ -26,6 +26,7 @@ fn parts_of(kind: u8) -> usize {
         2 => 2,
         3 => 3,
         4 => 2,
+        5 => 2,
         _ => 0,
     }
 }
@@ -60,7 +61,8 @@ fn put_answer(
         1 => reading::put_answer(sheet, out, used),
         2 => judging::put_answer(sheet, list, out, used),
         3 => walking::put_answer(sheet, list, four, out, used),
-        _ => lowering::put_answer(sheet, list, out, used),
+        4 => buffers::put_lowest(sheet, list, out, used),
+        _ => buffers::put_levels(sheet, list, out, used),
     }
 }
 

@@ -1,7 +1,7 @@
 use borrow.Author.Needs.{needs}
 use Rattle.sheet.specs.AnswerLaws.{answer-table}
-use Rattle.replies.proofs.reading.put_answer.Statement.{statement}
-use Rattle.replies.proofs.reading.put_answer.Tie as tie
+use Rattle.answer_lines.proofs.reading.put_answer.Statement.{statement}
+use Rattle.answer_lines.proofs.reading.put_answer.Tie as tie
 
 -- whatever was read, the table has at most 32 jobs of at most 16 operations
 put-table-requires : tie.Need-put-table-requires

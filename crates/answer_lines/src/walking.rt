@@ -1,6 +1,6 @@
 // The question for the next danger: kind 3 of docs/REPLIES.md.
-use crate::input::wide;
-use crate::reading::put_refusal;
+use crate::put_refusal;
+use crate::wide;
 use planner::Walk;
 use text::lines::put_danger;
 use text::put;

@@ -1,5 +1,5 @@
 // The question whether a sheet is robust against levels: kind 2 of docs/REPLIES.md.
-use crate::reading::put_refusal;
+use crate::put_refusal;
 use planner::Verdict;
 use text::put_word;
 

@@ -3,8 +3,8 @@ use mathlib.Core.Path.{_≡_}
 use lib.ListN.{length}
 use native.Mathlib.Omega.{arith}
 use borrow.Author.Needs.{needs}
-use Rattle.replies.proofs.reading.put_table.Statement.{statement}
-use Rattle.replies.proofs.reading.put_table.Tie as tie
+use Rattle.answer_lines.proofs.reading.put_table.Statement.{statement}
+use Rattle.answer_lines.proofs.reading.put_table.Tie as tie
 
 abbrev Inv-loop : tie.InvT-loop
 Inv-loop jobs objects level count kind object out₀ used₀ j₀ out used j = (j ≤ jobs) × (length out ≡ length out₀)

@@ -2,8 +2,8 @@ use Prim.Native.Nat.{_-_, _≤_}
 use mathlib.Core.Path.{_≡_}
 use lib.ListN.{length}
 use borrow.Author.Needs.{needs}
-use Rattle.replies.proofs.lowering.put_buffer.Statement.{statement}
-use Rattle.replies.proofs.lowering.put_buffer.Tie as tie
+use Rattle.answer_lines.proofs.buffers.put_buffer.Statement.{statement}
+use Rattle.answer_lines.proofs.buffers.put_buffer.Tie as tie
 
 abbrev Inv-loop : tie.InvT-loop
 Inv-loop buffer out₀ used₀ i₀ i-end out used i = (i ≤ i-end) × (i-end ≡ length buffer) × (length out ≡ length out₀)

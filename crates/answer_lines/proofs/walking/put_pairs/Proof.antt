@@ -2,8 +2,8 @@ use Prim.Native.Nat.{_-_, _≤_}
 use mathlib.Core.Path.{_≡_}
 use lib.ListN.{length}
 use borrow.Author.Needs.{needs}
-use Rattle.replies.proofs.walking.put_pairs.Statement.{statement}
-use Rattle.replies.proofs.walking.put_pairs.Tie as tie
+use Rattle.answer_lines.proofs.walking.put_pairs.Statement.{statement}
+use Rattle.answer_lines.proofs.walking.put_pairs.Tie as tie
 
 abbrev Inv-loop : tie.InvT-loop
 Inv-loop pairs out₀ used₀ i₀ out used i = (i ≤ 32) × (length out ≡ length out₀)

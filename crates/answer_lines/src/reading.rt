@@ -1,5 +1,6 @@
 // The question whether a sheet is read: kind 1 of docs/REPLIES.md.
-use crate::input::wide;
+use crate::put_refusal;
+use crate::wide;
 use sheet::Reading;
 use text::put;
 use text::put_number;
@@ -60,11 +61,6 @@ fn put_table<'a>(
     for j in 0..jobs {
         put_job(level[j], kind, object, 16 * j, wide(count[j]), out, used);
     }
-}
-
-pub fn put_refusal(r: sheet::Refusal, out: &mut [u8], used: &mut usize) {
-    let reason = r.reason;
-    text::lines::put_refusal(out, used, sheet::number(reason), r.place);
 }
 
 pub fn put_answer(sheet: &[u8], out: &mut [u8], used: &mut usize) {

@@ -2,8 +2,8 @@ use Prim.Native.Nat.{_-_, _≤_}
 use mathlib.Core.Path.{_≡_}
 use lib.ListN.{length}
 use borrow.Author.Needs.{needs}
-use Rattle.replies.proofs.reading.put_job.Statement.{statement}
-use Rattle.replies.proofs.reading.put_job.Tie as tie
+use Rattle.answer_lines.proofs.reading.put_job.Statement.{statement}
+use Rattle.answer_lines.proofs.reading.put_job.Tie as tie
 
 abbrev Inv-loop : tie.InvT-loop
 Inv-loop level kind object base n out₀ used₀ o₀ out used o = (o ≤ n) × (length out ≡ length out₀)
