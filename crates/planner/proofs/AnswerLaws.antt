@@ -1,6 +1,6 @@
 -- From what the code has met to what a question promises, one law for each outcome.
 -- Assumes nothing.
-use Prim.Native.Nat.{ℕ, _≤_}
+use Prim.Native.Nat.{ℕ}
 use mathlib.Core.Path.{_≡_, refl, sym, ap, _∙_}
 use mathlib.Core.List.{List, _++_}
 use native.Mathlib.Omega.{arith}
@@ -17,7 +17,7 @@ use Rattle.sheet.specs.declared.Table.{Table}
 use Rattle.sheet.specs.Jobs.{jobsOf}
 use Rattle.sheet.specs.ReadTable.{ReadTable}
 use Rattle.conflicts.specs.LaidLaws.{count-read, laid-read, below-read}
-use Rattle.planner.proofs.CheckLaws.{passed-length, passed-room}
+use Rattle.planner.proofs.CheckLaws.{passed-room}
 use Rattle.planner.specs.Checks.{levelsAt, roomAt, checkedOf, sheetWith, withLevels, withRoom}
 use Rattle.planner.specs.Questions.{Answers, Walks, walkOf, Walked, NoChain, InBuffer, Copies}
 use Rattle.planner.specs.Stands.{Stands}
@@ -49,20 +49,27 @@ module _ (check : Table → Step (Unit {0})) (s : List ℕ) where
     unfolding sheetWith next
     check-passed f = rw (e, ← met, f)
 
--- what a question knows once its sheet is read and its levels have passed
-pub record Ready (s ls : List ℕ) (t : Table) : Type 0 where
-  pub passed : withLevels s ls ≡ ok t
+-- what a question knows once its sheet is read and what comes with it has passed
+pub record Ready (check : Table → Step (Unit {0})) (s : List ℕ) (t : Table) : Type 0 where
+  pub passed : sheetWith check s ≡ ok t
   pub known : ReadTable t
-  pub as-long : length ls ≡ t .jobs
+  pub met : ok tt ≡ check t
 
 pub ready :
-    (s ls : List ℕ) (a : ReadAnswer) → Answered s a → a .reading ≡ reading.Sheet
-    → (c : Checked) → checkedOf c ≡ levelsAt (a .table .jobs) ls → c ≡ checked.Passed → Ready s ls (a .table)
-ready s ls a h e c met f = record {
-  passed = check-passed (λ t. levelsAt (t .jobs) ls) s (a .table) (answer-read s a h e) c met f;
+    (check : Table → Step (Unit {0})) (s : List ℕ) (a : ReadAnswer) → Answered s a → a .reading ≡ reading.Sheet
+    → (c : Checked) → checkedOf c ≡ check (a .table) → c ≡ checked.Passed → Ready check s (a .table)
+ready check s a h e c met f = record {
+  passed = check-passed check s (a .table) (answer-read s a h e) c met f;
   known = answer-table s a h;
-  as-long = passed-length (a .table .jobs) ls (sym (ap checkedOf f) ∙ met);
+  met = sym (ap checkedOf f) ∙ met;
 }
+
+-- the check of a list of levels, and of an answer buffer of this length
+abbrev pub byLevels : List ℕ → Table → Step (Unit {0})
+byLevels ls t = levelsAt (t .jobs) ls
+
+abbrev pub byRoom : ℕ → Table → Step (Unit {0})
+byRoom room t = roomAt (t .jobs) room
 
 -- the jobs that were read stand in the table's arrays
 abbrev pub read-stands : (t : Table) → ReadTable t → Stands (t .jobs) (t .objects) (t .kind) (t .object)
@@ -79,33 +86,18 @@ module _ (s ls : List ℕ) (above : Four) (a : WalkAnswer) where
   pub walk-refused : (r : Refusal) → withLevels s ls ≡ faultOf r → a .walk ≡ walk.Refused r → NoChain a → Walked s ls above a
   walk-refused r e f none = record { outcome = rw f (answers-refused _ _ r e); refused = λ _ _. none }
 
-  pub walk-told : (t : Table) → Ready s ls t → Answers (λ js. Walks ls above a js) (ok (jobsOf t)) (walkOf (a .walk)) → Walked s ls above a
+  pub walk-told : (t : Table) → Ready (byLevels ls) s t → Answers (λ js. Walks ls above a js) (ok (jobsOf t)) (walkOf (a .walk)) → Walked s ls above a
   walk-told t h told = record {
     outcome = rw (h .passed) (answers-as (λ js. Walks ls above a js) (λ t. Walks ls above a (jobsOf t)) (jobsOf t) t (λ w p. p) (walkOf (a .walk)) told);
     refused = λ r e. absurd (rw e at told);
   }
-
--- what a question knows once its sheet is read and its answer buffer is long enough
-pub record Roomy (s : List ℕ) (room : ℕ) (t : Table) : Type 0 where
-  pub passed : withRoom s room ≡ ok t
-  pub known : ReadTable t
-  pub enough : t .jobs ≤ room
-
-pub roomy :
-    (s : List ℕ) (room : ℕ) (a : ReadAnswer) → Answered s a → a .reading ≡ reading.Sheet
-    → (c : Checked) → checkedOf c ≡ roomAt (a .table .jobs) room → c ≡ checked.Passed → Roomy s room (a .table)
-roomy s room a h e c met f = record {
-  passed = check-passed (λ t. roomAt (t .jobs) room) s (a .table) (answer-read s a h e) c met f;
-  known = answer-table s a h;
-  enough = passed-room (a .table .jobs) room (sym (ap checkedOf f) ∙ met);
-}
 
 -- a number with an answer buffer, over what stands in the buffer
 module _ (R : Table → (before after : List ℕ) → ℕ → Type 0) (s before : List ℕ) where
   pub buffer-kept : (r : Refusal) → withRoom s (length before) ≡ faultOf r → InBuffer R s before before (faultOf r)
   buffer-kept r e = record { outcome = answers-refused (λ t. R t before before) _ r e; refused = λ _ _ _. refl }
 
-  pub buffer-filled : (t : Table) → Roomy s (length before) t → (after : List ℕ) (n : ℕ) → R t before after n → InBuffer R s before after (ok n)
+  pub buffer-filled : (t : Table) → Ready (byRoom (length before)) s t → (after : List ℕ) (n : ℕ) → R t before after n → InBuffer R s before after (ok n)
   buffer-filled t h after n filled = record {
     outcome = answers-passed (λ t. R t before after) _ t n (h .passed) filled;
     refused = λ number place f. let z : _≡_ {A = ℕ} 0 1 = cc in absurd (omega arith);
@@ -113,11 +105,11 @@ module _ (R : Table → (before after : List ℕ) → ℕ → Type 0) (s before 
 
 -- the first bytes of the buffer copied from the levels of the table
 pub levels-copied :
-    (s : List ℕ) (t : Table) (before after : List ℕ) → Roomy s (length before) t
+    (s : List ℕ) (t : Table) (before after : List ℕ) → Ready (byRoom (length before)) s t
     → after ≡ take (t .jobs) (t .level) ++ drop (t .jobs) before → Copies t before after (t .jobs)
 levels-copied s t before after h e = record {
   levels = ap (take (t .jobs)) e ∙ take-at row (drop (t .jobs) before) (t .jobs) long;
-  size = ap length e ∙ length-front before row (t .jobs) (long ∙ sym (length-take-le (t .jobs) before (h .enough)));
+  size = ap length e ∙ length-front before row (t .jobs) (long ∙ sym (length-take-le (t .jobs) before (passed-room (t .jobs) (length before) (h .met))));
   kept = ap (drop (t .jobs)) e ∙ drop-at row (drop (t .jobs) before) (t .jobs) long;
   number = refl;
 }
