@@ -69,7 +69,7 @@ show-requires c κs =
     let k = start .pre .1 in
     let met = at .found .given in
     let d = found-danger (k .js) (start .args .levels .now) (start .args .above) _ (met .0 .0) (met .1) (first .first-above .ensures (k .js) (k .sets) (k .size)) in
-    (refl, danger-in _ _ _ _ _ _ _ _ (start .args .levels .now) k (met .0 .0) d)
+    (refl {a = 64}, danger-in _ _ _ _ _ _ _ _ (start .args .levels .now) k (met .0 .0) d)
 
 found : tie.Need-returns-2
 found c =
