@@ -11,6 +11,7 @@ use Rattle.sheet.specs.JobsLaws.{jobs-length, job-none, job-length, operation-i
 use Rattle.sheet.specs.ReadTable.{ReadTable}
 use Rattle.theory.specs.Danger.{job}
 use Rattle.theory.specs.Form1.{form1}
+use Rattle.theory.specs.Form1Laws.{Writes, writes-known, WritesOnce}
 use Rattle.conflicts.specs.Laid.{opAt, Laid, Below}
 
 pub count-read : (t : Table) → length (jobsOf t) ≡ t .jobs
@@ -51,3 +52,21 @@ module _ (t : Table) (read : ReadTable t) where
   below-read j o h =
       let l : o < getD (t .count) j 0 = omega (arith, job-count j) in
       rw (operation-at j o l) (read .operations .object-most j o l)
+
+  -- no job writes an object twice: what writes stands in the arrays, where no two operations of a job are alike
+  pub writes-once : (j : ℕ) → WritesOnce (job form1 (jobsOf t) j)
+  writes-once j o p x v w = cases (decLt o p) (decLt p o)
+    where
+      written : (i : ℕ) → Writes (getD (job form1 (jobsOf t) j) i (0, 0)) x → (i < getD (t .count) j 0) × Writes (opAt (t .kind) (t .object) (16 * j + i)) x
+      written i u = let h : i < getD (t .count) j 0 = omega (arith, job-count j, writes-known (job form1 (jobsOf t) j) i x u) in (h, rw (operation-at j i h) at u)
+
+      alike : (i k : ℕ) → Writes (getD (job form1 (jobsOf t) j) i (0, 0)) x → Writes (getD (job form1 (jobsOf t) j) k (0, 0)) x → i < k → ⊥
+      alike i k a b l =
+          let c = written i a in
+          let d = written k b in
+          read .operations .once j i k l (d .0) (c .1 .0 ∙ sym (d .1 .0)) (c .1 .1 ∙ sym (d .1 .1))
+
+      cases : Dec (o < p) → Dec (p < o) → o ≡ p
+      cases (yes l) m = absurd (alike o p v w l)
+      cases (no l) (yes m) = absurd (alike p o w v m)
+      cases (no l) (no m) = omega arith
