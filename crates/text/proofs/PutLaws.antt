@@ -41,3 +41,10 @@ module _ {out : List ℕ} {used : ℕ} {out₁ : List ℕ} {used₁ : ℕ} where
   pub put-more : (word : List ℕ) (i : ℕ) {out₂ : List ℕ} {used₂ : ℕ} → i < length word
       → Put (take i word) out used out₁ used₁ → Put (getD word i 0 ∷ []) out₁ used₁ out₂ used₂ → Put (take (i + 1) word) out used out₂ used₂
   put-more word i h p q = rw (add-one, take-suc word i 0) (put-append (take i word) (getD word i 0 ∷ []) p q)
+
+-- the four runs of a line
+pub put-line :
+    {out : List ℕ} {used : ℕ} {out₁ : List ℕ} {used₁ : ℕ} {out₂ : List ℕ} {used₂ : ℕ} {out₃ : List ℕ} {used₃ : ℕ} {out₄ : List ℕ} {used₄ : ℕ} (a b c d : List ℕ)
+    → Put a out used out₁ used₁ → Put b out₁ used₁ out₂ used₂ → Put c out₂ used₂ out₃ used₃ → Put d out₃ used₃ out₄ used₄
+    → Put (a ++ b ++ c ++ d) out used out₄ used₄
+put-line a b c d p q r s = put-append (a ++ b ++ c) d (put-append (a ++ b) c (put-append a b p q) r) s
