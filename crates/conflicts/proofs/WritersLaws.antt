@@ -13,9 +13,11 @@ use lib.ListN.{length, getD, set, replicate, length-set, length-replicate, getD-
 use lib.Seq.{getD-set-same, getD-set-other}
 use borrow.Author.Tests.{eqb-true, eq-eqb}
 use Rattle.jobset.specs.Jobset.{bit, one}
+use Rattle.jobset.specs.JobsetLaws.{bit-none}
+use Rattle.sheet.specs.ReadLaws.{zeros}
 use Rattle.conflicts.specs.Sets.{Has}
-use Rattle.conflicts.specs.Found.{write?, writes?, Gathered, Handed, Written}
-use Rattle.conflicts.proofs.Among.{has-none, has-more, has-skip}
+use Rattle.conflicts.specs.Found.{write?, writes?, Gathered, Handed, WritesBelow, Written}
+use Rattle.conflicts.proofs.Among.{same-test, among-out, has-none, has-more, has-skip}
 
 module _ (kind object : List ℕ) (x i : ℕ) where
   -- an entry that writes another object, or does not write, tells nothing
@@ -77,7 +79,7 @@ module _ (object seen : List ℕ) (from : ℕ) (old : List ℕ) where
       | inl q ↦ absurd (f s l (ap (λ (x : ℕ). getD object x 0) (sym q) ∙ e))
       | inr q ↦ d .inside i s q l e
     ];
-    outside = d .outside;
+    outside = λ i g. d .outside i (λ s h l e. g s (omega arith) l e);
   }
 
   pub handed-store : (n t : ℕ) (new : List ℕ) → Handed object seen n from old new → n < length old → t < 512 → getD object n 0 ≡ from + t
@@ -85,7 +87,9 @@ module _ (object seen : List ℕ) (from : ℕ) (old : List ℕ) where
   handed-store n t new d b l at = record {
     as-long = length-set new n (getD seen t 0) ∙ d .as-long;
     inside = inside;
-    outside = λ i h. getD-set-other new n i _ 0 (λ q. omega (arith, ap (λ (x : ℕ). getD object x 0) q)) ∙ d .outside i h;
+    outside = λ i g.
+        getD-set-other new n i _ 0 (λ q. g t (omega arith) l (ap (λ (x : ℕ). getD object x 0) q ∙ at))
+        ∙ d .outside i (λ s h k e. g s (omega arith) k e);
   }
     where
       inside : (i s : ℕ) → i < n + 1 → s < 512 → getD object i 0 ≡ from + s → getD (set new n (getD seen t 0)) i 0 ≡ getD seen s 0
@@ -97,24 +101,48 @@ module _ (object seen : List ℕ) (from : ℕ) (old : List ℕ) where
         | inr q ↦ getD-set-other new n i (getD seen t 0) 0 (λ z. omega arith) ∙ d .inside i s q k e
       ]
 
+-- of the first n entries those on an object below `top` have the jobs that write it, all others have none
+pub record WrittenTo (kind object : List ℕ) (n top : ℕ) (writers : List ℕ) : Type 0 where
+  pub as-long : length writers ≡ 512
+  pub done : (i : ℕ) → i < n → getD object i 0 < top → Has (getD writers i 0) (writes? kind object n (getD object i 0))
+  pub rest : (i : ℕ) → (i < n → top ≤ getD object i 0) → getD writers i 0 ≡ 0
+
 module _ (kind object : List ℕ) (n : ℕ) where
-  pub written-none : (writers : List ℕ) → Written kind object n 0 writers
-  unfolding Written
-  written-none writers i h l = absurd (omega arith)
+  pub written-none : (writers : List ℕ) → writers ≡ replicate 512 0 → WrittenTo kind object n 0 writers
+  written-none writers e = rw e (record { as-long = length-replicate {A = ℕ} 512 0; done = λ i h l. absurd (omega arith); rest = λ i h. zeros 512 i })
 
   -- one span more
   pub written-more : (from : ℕ) (seen old new : List ℕ) → Gathered kind object n from seen → Handed object seen n from old new
-      → Written kind object n from old → Written kind object n (from + 512) new
-  unfolding Written
-  written-more from seen old new g d w i h l k = cases (decLt (getD object i 0) from)
+      → WrittenTo kind object n from old → WrittenTo kind object n (from + 512) new
+  written-more from seen old new g d w = record {
+    as-long = d .as-long ∙ w .as-long;
+    done = λ i h l k. cases i h l k (decLt (getD object i 0) from);
+    rest = λ i h. d .outside i (λ s b l e. omega (arith, h b)) ∙ w .rest i (λ b. omega (arith, h b));
+  }
     where
-      cases : Dec (getD object i 0 < from) → bit (getD new i 0) k ≡ one (writes? kind object n (getD object i 0) k)
-      cases (yes q) = ap (λ (x : ℕ). bit x k) (d .outside i q) ∙ w i h q k
-      cases (no q) =
+      cases : (i : ℕ) → i < n → getD object i 0 < from + 512 → (k : ℕ) → Dec (getD object i 0 < from) → bit (getD new i 0) k ≡ one (writes? kind object n (getD object i 0) k)
+      cases i h l k (yes q) = ap (λ (x : ℕ). bit x k) (d .outside i (λ s b m e. omega arith)) ∙ w .done i h q k
+      cases i h l k (no q) =
           let s = getD object i 0 - from in
           let e : getD object i 0 ≡ from + s = omega arith in
           ap (λ (x : ℕ). bit x k) (d .inside i s h (omega arith) e) ∙ g .jobs s (omega arith) k ∙ ap (λ (x : ℕ). one (writes? kind object n x k)) (sym e)
 
-  pub written-all : (objects from : ℕ) (writers : List ℕ) → objects ≤ from → Written kind object n from writers → Written kind object n objects writers
-  unfolding Written
-  written-all objects from writers b w i h l = w i h (omega arith)
+  -- past the declared objects nothing is written
+  pub written-all : (objects from : ℕ) (writers : List ℕ) → objects ≤ from → WritesBelow objects kind object n → WrittenTo kind object n from writers → Written kind object n writers
+  unfolding one
+  written-all objects from writers b low w = record {
+    as-long = w .as-long;
+    done = λ i h. cases i h (decLt (getD object i 0) from);
+    rest = λ i h. w .rest i (λ l. absurd (omega arith));
+  }
+    where
+      unwritten : (x k : ℕ) → from ≤ x → writes? kind object n x k ≡ false
+      unwritten x k h = same-test _ false
+          (λ t.
+          let m = among-out (write? kind object x k) n t in
+          rw (no-write kind object x (m .0) (λ u v. omega (arith, low (m .0) (m .1) u)) k) at (m .2))
+          (λ t. absurd t)
+
+      cases : (i : ℕ) → i < n → Dec (getD object i 0 < from) → Has (getD writers i 0) (writes? kind object n (getD object i 0))
+      cases i h (yes l) = w .done i h l
+      cases i h (no l) = λ k. ap (λ (x : ℕ). bit x k) (w .rest i (λ _. omega arith)) ∙ bit-none k ∙ ap one (sym (unwritten (getD object i 0) k (omega arith)))

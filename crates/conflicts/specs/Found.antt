@@ -30,15 +30,21 @@ pub record Gathered (kind object : List ℕ) (n from : ℕ) (seen : List ℕ) : 
   pub as-long : length seen ≡ 512
   pub jobs : (s : ℕ) → s < 512 → Has (getD seen s 0) (writes? kind object n (from + s))
 
--- the first n entries on an object from `from` to `from` + 511 have what `seen` has for it, those on a lower object are as before
+-- the first n entries on an object from `from` to `from` + 511 have what `seen` has for it, all others are as before
 pub record Handed (object seen : List ℕ) (n from : ℕ) (before after : List ℕ) : Type 0 where
   pub as-long : length after ≡ length before
   pub inside : (i s : ℕ) → i < n → s < 512 → getD object i 0 ≡ from + s → getD after i 0 ≡ getD seen s 0
-  pub outside : (i : ℕ) → getD object i 0 < from → getD after i 0 ≡ getD before i 0
+  pub outside : (i : ℕ) → ((s : ℕ) → i < n → s < 512 → getD object i 0 ≡ from + s → ⊥) → getD after i 0 ≡ getD before i 0
 
--- each of the first n entries on an object below `top` has the jobs that write it
-unfoldable pub Written : List ℕ → List ℕ → ℕ → ℕ → List ℕ → Type 0
-Written kind object n top writers = (i : ℕ) → i < n → getD object i 0 < top → Has (getD writers i 0) (writes? kind object n (getD object i 0))
+-- a write among the first n entries is of an object below the declared number
+abbrev pub WritesBelow : ℕ → List ℕ → List ℕ → ℕ → Type 0
+WritesBelow objects kind object n = (i : ℕ) → i < n → getD kind i 0 ≡ 2 → getD object i 0 < objects
+
+-- each of the first n entries has the jobs that write its object, all others have none
+pub record Written (kind object : List ℕ) (n : ℕ) (writers : List ℕ) : Type 0 where
+  pub as-long : length writers ≡ 512
+  pub done : (i : ℕ) → i < n → Has (getD writers i 0) (writes? kind object n (getD object i 0))
+  pub rest : (i : ℕ) → n ≤ i → getD writers i 0 ≡ 0
 
 -- entry j of the sets is as it should be for the first n jobs, and no job for the others
 pub record Filled (n : ℕ) (P : ℕ → ℕ → Type 0) (sets : List ℕ) : Type 0 where

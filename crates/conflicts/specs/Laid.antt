@@ -19,3 +19,10 @@ pub record Laid (kind object : List ℕ) (js : Jobs form1) : Type 0 where
 -- every object is below the declared number
 abbrev pub Below : ℕ → Jobs form1 → Type 0
 Below objects js = (j o : ℕ) → o < length (job form1 js j) → (getD (job form1 js j) o (0, 0)) .1 < objects
+
+-- so many jobs stand in the arrays, on objects below the declared number
+pub record Stands (jobs objects : ℕ) (kind object : List ℕ) : Type 0 where
+  pub js : Jobs form1
+  pub size : length js ≡ jobs
+  pub below : Below objects js
+  pub laid : Laid kind object js

@@ -2,12 +2,10 @@
 use crate::writers::find_writers;
 ghost use mathlib.Core.Path.{_≡_};
 ghost use Prim.Native.Nat.{_≤_, _<_};
-ghost use lib.ListN.{length, replicate};
-ghost use Rattle.theory.specs.Danger.{Jobs};
-ghost use Rattle.theory.specs.Form1.{form1};
-ghost use Rattle.conflicts.specs.Sets.{Sets};
+ghost use lib.ListN.{replicate};
 ghost use Rattle.conflicts.specs.Sets as sets;
-ghost use Rattle.conflicts.specs.Laid.{Laid, Below};
+ghost use Rattle.conflicts.specs.SetsFound.{SetsFound};
+ghost use Rattle.conflicts.specs.Laid.{Stands};
 ghost use Rattle.conflicts.specs.Found.{Filled, Over, Turned, Any};
 
 // The jobs that write over the operation at i, if it is of kind k: those with which a read (1) is rw, a write (2) ww.
@@ -86,11 +84,11 @@ pub fn find(
     wr: &mut [u32; 32],
     clash: &mut [u32; 32],
 )
-    requires { ⌜ (jobs ≤ 32) × (objects ≤ 4096) × (length (now writers) ≡ 512) ⌝ }
+    requires { ⌜ (jobs ≤ 32) × (objects ≤ 4096) × Stands jobs objects (now kind) (now object) × (now writers ≡ replicate 512 0) ⌝ }
     requires { ⌜ (now ww ≡ replicate 32 0) × (now rw ≡ replicate 32 0) × (now wr ≡ replicate 32 0) × (now clash ≡ replicate 32 0) ⌝ }
     ensures { λ _. ⌜
-        ((js : Jobs form1) → length js ≡ jobs → Below objects js → Laid (now (kind .entry)) (now (object .entry)) js
-        → Sets form1 js (now (kind .entry)) (now (writers .exit)) (now (ww .exit)) (now (rw .exit)) (now (wr .exit)) (now (clash .exit)))
+        ((k : Stands jobs objects (now (kind .entry)) (now (object .entry)))
+        → SetsFound (k .js) (now (kind .entry)) (now (object .entry)) (now (writers .exit)) (now (ww .exit)) (now (rw .exit)) (now (wr .exit)) (now (clash .exit)))
         ⌝ }
 {
     find_writers(jobs, objects, kind, object, writers);

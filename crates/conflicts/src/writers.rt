@@ -2,7 +2,7 @@
 ghost use mathlib.Core.Path.{_≡_};
 ghost use Prim.Native.Nat.{_*_, _≤_, _<_};
 ghost use lib.ListN.{length, replicate};
-ghost use Rattle.conflicts.specs.Found.{Gathered, Handed, Written};
+ghost use Rattle.conflicts.specs.Found.{Gathered, Handed, WritesBelow, Written};
 
 // An object as a number.
 fn wide(x: u16) -> usize
@@ -59,8 +59,9 @@ pub fn find_writers(
     object: &[u16; 512],
     writers: &mut [u32; 512],
 )
-    requires { ⌜ (jobs ≤ 32) × (objects ≤ 4096) × (length (now writers) ≡ 512) ⌝ }
-    ensures { λ _. ⌜ Written (now (kind .entry)) (now (object .entry)) (16 * jobs) objects (now (writers .exit)) ⌝ }
+    requires { ⌜ (jobs ≤ 32) × (objects ≤ 4096) × (now writers ≡ replicate 512 0) ⌝ }
+    requires { ⌜ WritesBelow objects (now kind) (now object) (16 * jobs) ⌝ }
+    ensures { λ _. ⌜ Written (now (kind .entry)) (now (object .entry)) (16 * jobs) (now (writers .exit)) ⌝ }
 {
     let mut from = 0;
     while from < objects {

@@ -16,11 +16,11 @@ use Rattle.sheet.specs.declared.Reading.the-variants as reading
 use Rattle.sheet.specs.declared.Table.{Table}
 use Rattle.sheet.specs.Jobs.{jobsOf}
 use Rattle.sheet.specs.ReadTable.{ReadTable}
+use Rattle.conflicts.specs.Laid.{Stands}
 use Rattle.conflicts.specs.LaidLaws.{count-read, laid-read, below-read}
 use Rattle.planner.proofs.CheckLaws.{passed-room}
 use Rattle.planner.specs.Checks.{levelsAt, roomAt, checkedOf, sheetWith, withLevels, withRoom}
 use Rattle.planner.specs.Questions.{Answers, Walks, walkOf, Walked, NoChain, InBuffer, Copies}
-use Rattle.planner.specs.Stands.{Stands}
 use Rattle.planner.specs.declared.levels.Checked.{Checked}
 use Rattle.planner.specs.declared.levels.Checked.the-variants as checked
 use Rattle.planner.specs.declared.Walk.the-variants as walk

@@ -10,9 +10,9 @@ ghost use lib.ListN.{length, take, drop};
 ghost use Rattle.theory.specs.Form1.{form1};
 ghost use Rattle.theory.specs.Planner.{Robust₁};
 ghost use Rattle.sheet.specs.Step.{ok};
+ghost use Rattle.conflicts.specs.Laid.{Stands};
 ghost use Rattle.verdict.specs.Verdict.{Tells, Lowers};
 ghost use Rattle.planner.specs.Questions.{Answers, Walks, walkOf};
-ghost use Rattle.planner.specs.Stands.{Stands};
 
 // Whether the jobs in the arrays are robust against the levels.
 pub fn is_robust<'a>(
@@ -23,6 +23,7 @@ pub fn is_robust<'a>(
     levels: &[u8],
 ) -> bool
     requires { ⌜ (jobs ≤ 32) × (objects ≤ 4096) × (length (now levels) ≡ jobs) ⌝ }
+    requires { ⌜ Stands jobs objects (now kind) (now object) ⌝ }
     ensures { λ r. ⌜
         ((k : Stands jobs objects (now (kind .entry)) (now (object .entry))) → Tells (Robust₁ (k .js) (now (levels .entry))) r)
         ⌝ }
@@ -101,6 +102,7 @@ pub fn find_lowest<'a>(
     answer: &mut [u8],
 ) -> u32
     requires { ⌜ (jobs ≤ 32) × (objects ≤ 4096) × (jobs ≤ length (now answer)) ⌝ }
+    requires { ⌜ Stands jobs objects (now kind) (now object) ⌝ }
     ensures { λ r. ⌜
         ((k : Stands jobs objects (now (kind .entry)) (now (object .entry)))
         → Lowers form1 (k .js) (now (answer .entry)) (now (answer .exit)) r)

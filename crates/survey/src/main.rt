@@ -14,7 +14,8 @@ use verdict::lowest::find_lowest;
 use walk::four::Four;
 ghost use Prim.Native.Nat.{_≤_};
 ghost use lib.ListN.{length};
-ghost use Rattle.planner.specs.Stands.{Stands, SetsStand};
+ghost use Rattle.conflicts.specs.Laid.{Stands};
+ghost use Rattle.planner.specs.Stands.{SetsStand};
 ghost use Rattle.survey.specs.Bytes.{Bytes};
 
 // Writes the lines away.

@@ -24,7 +24,7 @@ is-robust-requires c κs =
     let checked = c .before .before .before .before .before in
     let told = c .before .before .before .before .before .before in
     let r = ready (byLevels _) _ _ (told .before .before .read-sheet .ensures) (told .enum-told .given .1) _ (checked .check-levels .ensures) (c .before .before .before .enum-told2 .given .1) in
-    (r .known .operations .jobs-most, r .known .operations .objects-most, passed-length _ _ (r .met))
+    ((r .known .operations .jobs-most, r .known .operations .objects-most, passed-length _ _ (r .met)), read-stands _ (r .known))
 
 robust : tie.Need-returns-3
 robust c =

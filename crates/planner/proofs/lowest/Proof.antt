@@ -28,7 +28,7 @@ find-lowest-requires c κs =
     let checked = passed .before .before in
     let told = checked .before in
     let r = ready (byRoom _) _ _ (told .before .before .read-sheet .ensures) (told .enum-told .given .1) _ (checked .check-room .ensures) (passed .enum-told2 .given .1) in
-    (r .known .operations .jobs-most, r .known .operations .objects-most, passed-room _ _ (r .met))
+    ((r .known .operations .jobs-most, r .known .operations .objects-most, passed-room _ _ (r .met)), read-stands _ (r .known))
 
 lowest : tie.Need-returns-3
 lowest c =

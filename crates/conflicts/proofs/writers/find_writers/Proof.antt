@@ -1,34 +1,31 @@
 -- `find_writers` meets its contract: before each turn the operations on objects of the spans passed have their jobs.
 -- Assumes nothing.
 use Prim.Native.Nat.{_*_, _-_}
-use mathlib.Core.Path.{_≡_, refl, _∙_}
+use mathlib.Core.Path.{refl}
 use native.Mathlib.Omega.{arith}
 use borrow.Author.Needs.{needs}
-use lib.ListN.{length}
-use Rattle.conflicts.specs.Found.{Written}
-use Rattle.conflicts.proofs.WritersLaws.{written-none, written-more, written-all}
+use Rattle.conflicts.proofs.WritersLaws.{WrittenTo, written-none, written-more, written-all}
 use Rattle.conflicts.proofs.writers.find_writers.Statement.{statement}
 use Rattle.conflicts.proofs.writers.find_writers.Tie as tie
 
 abbrev Inv-loop : tie.InvT-loop
-Inv-loop jobs objects kind object writers₀ from₀ writers from = (length writers ≡ 512) × Written kind object (16 * jobs) from writers
+Inv-loop jobs objects kind object writers₀ from₀ writers from = WrittenTo kind object (16 * jobs) from writers
 
 abbrev μ-loop : tie.MeasureT-loop
 μ-loop jobs objects kind object writers₀ from₀ writers from = objects - from
 
 loop-holds : tie.Need-loop-holds Inv-loop μ-loop
-loop-holds c = (search needs, written-none _ _ _ _)
+loop-holds c = written-none _ _ _ _ (c .pre .0 .2)
 
 gather-requires : tie.Need-gather-requires Inv-loop μ-loop
 gather-requires c κs = (omega arith, refl)
 
 loop-again : tie.Need-loop-again Inv-loop μ-loop
 loop-again c =
-    let inv = c .before .before .before .before .before .before .loop .inv in
-    (c .hand-out .ensures .as-long ∙ inv .0, written-more _ _ _ _ _ _ _ (c .before .before .before .gather .ensures) (c .hand-out .ensures) (inv .1))
+    written-more _ _ _ _ _ _ _ (c .before .before .before .gather .ensures) (c .hand-out .ensures) (c .before .before .before .before .before .before .loop .inv)
 
 returns : tie.Need-returns Inv-loop μ-loop
-returns c = written-all _ _ _ _ _ _ (omega arith) (c .before .loop .inv .1)
+returns c = written-all _ _ _ _ _ _ (omega arith) (c .before .before .pre .1) (c .before .loop .inv)
 
 pub find-writers-spec : {M : Type 1} → statement M
 find-writers-spec =

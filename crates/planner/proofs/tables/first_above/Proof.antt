@@ -8,12 +8,12 @@ next-of-requires c κs =
     let find = c .before .before .before .before .before in
     let start = find .before .before .before .before .before .before .before in
     let k = start .pre .1 in
-    ((start .pre .0 .0, omega (arith, start .pre .0 .2)), record { js = k .js; size = k .size; laid = k .laid; sets = find .find .ensures (k .js) (k .size) (k .below) (k .laid) })
+    ((start .pre .0 .0, omega (arith, start .pre .0 .2)), record { js = k .js; size = k .size; laid = k .laid; sets = find .find .ensures k .sets })
 
 returns : tie.Need-returns
 returns c =
     let find = c .before .before .before .before .before .before in
-    λ k. c .next-of .ensures (record { js = k .js; size = k .size; laid = k .laid; sets = find .find .ensures (k .js) (k .size) (k .below) (k .laid) })
+    λ k. c .next-of .ensures (record { js = k .js; size = k .size; laid = k .laid; sets = find .find .ensures k .sets })
 
 pub first-above-spec : {M : Type 1} → statement M
 first-above-spec = tie.close (tie.spec (λ c κs. search needs) next-of-requires returns)
