@@ -1,6 +1,8 @@
 // The first and the last jobs between which a chain leads (document 01, "Conflicts and splits").
 ghost use mathlib.Core.Path.{_≡_};
+ghost use mathlib.Core.Bool.{cond};
 ghost use Prim.Native.Nat.{ℕ, _<_, _≤_};
+ghost use lib.Dec.{eqb};
 ghost use Rattle.jobset.specs.Jobset.{bit};
 ghost use Rattle.walk.specs.Sides.{Firsts, Lasts};
 
@@ -29,7 +31,7 @@ pub fn lasts_of(clash: &[u32; 32], shut: u32, watch: u32, firsts: u32, last: u32
 
 // Where a search through a set may end: nothing is to be looked for in an empty one.
 pub fn end_of(m: u32) -> u32
-    ensures { λ r. ⌜ (r ≤ 32) × ((k : ℕ) → bit m k ≡ 1 → k < r) ⌝ }
+    ensures { λ r. ⌜ (r ≤ 32) × ((k : ℕ) → bit m k ≡ 1 → k < r) × (r ≡ cond (eqb m 0) 0 32) ⌝ }
 {
     if m == 0 {
         return 0;
