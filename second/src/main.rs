@@ -7,7 +7,7 @@ use std::io::{Read, Write};
 use std::process::ExitCode;
 
 const USAGE: &str = "\
-second stored [KINDS]                 the stream of questions that is stored; KINDS as 1,2,3,4
+second stored [KINDS]                 the stream of questions that is stored; KINDS as 1,2,3,4,5
 second questions SEED COUNT [KINDS]   a stream of so many random questions
 second broken FOLDER [KINDS]          streams that are cut or malformed, into files
 second answers < stream               the lines that are due
@@ -83,7 +83,7 @@ fn write_broken(folder: &str, kinds: &[u8]) -> Result<Vec<u8>, String> {
 
 /// A list of kinds, or those that `replies` answers if none is given.
 fn parse_kinds(words: &[&str]) -> Result<Vec<u8>, String> {
-    let kind = |word: &str| word.parse().ok().filter(|kind| (1..=4).contains(kind));
+    let kind = |word: &str| word.parse().ok().filter(|kind| cases::KINDS.contains(kind));
     let kinds: Option<Vec<u8>> = match words {
         [] => Some(cases::KINDS.to_vec()),
         [list] => list.split(',').map(kind).collect(),

@@ -14,6 +14,7 @@ pub enum Question {
     Judge { sheet: Vec<u8>, levels: Vec<u8> },
     Next { sheet: Vec<u8>, levels: Vec<u8>, above: [u8; 4] },
     Lowest { sheet: Vec<u8>, buffer: Vec<u8> },
+    Levels { sheet: Vec<u8>, buffer: Vec<u8> },
 }
 
 impl Question {
@@ -23,7 +24,8 @@ impl Question {
             Question::Read { sheet } => line(answer_read(sheet)),
             Question::Judge { sheet, levels } => line(answer_judge(sheet, levels)),
             Question::Next { sheet, levels, above } => line(answer_next(sheet, levels, *above)),
-            Question::Lowest { sheet, buffer } => answer_lowest(sheet, buffer),
+            Question::Lowest { sheet, buffer } => filled("lowest", fill_lowest, sheet, buffer),
+            Question::Levels { sheet, buffer } => filled("levels", fill_levels, sheet, buffer),
         }
     }
 }
@@ -62,26 +64,46 @@ pub fn pairs_text(split: &Split) -> String {
     split.pairs.iter().map(|(b, a)| format!(" {b}-{a}")).collect()
 }
 
-fn answer_lowest(bytes: &[u8], buffer: &[u8]) -> String {
+/// Fills the buffer as lent for a sheet, and gives a number back.
+type Fill = fn(&[u8], &mut [u8]) -> Result<usize, Refusal>;
+
+fn filled(word: &str, fill: Fill, sheet: &[u8], buffer: &[u8]) -> String {
     let mut buffer = buffer.to_vec();
-    let start = match fill_lowest(bytes, &mut buffer) {
-        Ok(asked) => format!("lowest {asked} :"),
+    let start = match fill(sheet, &mut buffer) {
+        Ok(number) => format!("{word} {number} :"),
         Err(refusal) => format!("{refusal} :"),
     };
     let bytes: String = buffer.iter().map(|byte| format!(" {byte:02x}")).collect();
     start + &bytes
 }
 
-/// The levels go to the first bytes, the rest stays; the number asked comes back.
+/// The lowest levels go to the buffer; the number asked comes back.
 fn fill_lowest(bytes: &[u8], buffer: &mut [u8]) -> Result<usize, Refusal> {
+    let sheet = read_for(bytes, buffer)?;
+    let (levels, asked) = lowest(sheet.jobs.len(), &Dangers::new(&sheet));
+    write_levels(&levels, buffer);
+    Ok(asked)
+}
+
+/// The levels that the sheet itself names go to the buffer; the number of jobs comes back.
+fn fill_levels(bytes: &[u8], buffer: &mut [u8]) -> Result<usize, Refusal> {
+    let sheet = read_for(bytes, buffer)?;
+    write_levels(&sheet.levels(), buffer);
+    Ok(sheet.jobs.len())
+}
+
+/// The sheet, if its levels have room in the buffer.
+fn read_for(bytes: &[u8], buffer: &[u8]) -> Result<Sheet, Refusal> {
     let sheet = read(bytes)?;
-    let jobs = sheet.jobs.len();
-    refuse_if(buffer.len() < jobs, Reason::BufferShort, 0)?;
-    let (levels, asked) = lowest(jobs, &Dangers::new(&sheet));
+    refuse_if(buffer.len() < sheet.jobs.len(), Reason::BufferShort, 0)?;
+    Ok(sheet)
+}
+
+/// One byte a job from the buffer's first byte on; the rest stays.
+fn write_levels(levels: &[Level], buffer: &mut [u8]) {
     for (byte, level) in buffer.iter_mut().zip(levels) {
         *byte = level.byte();
     }
-    Ok(asked)
 }
 
 /// A list of levels for this sheet.

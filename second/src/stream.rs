@@ -19,6 +19,7 @@ fn write_question(question: &Question, stream: &mut Vec<u8>) {
         Question::Judge { sheet, levels } => (2, vec![sheet, levels]),
         Question::Next { sheet, levels, above } => (3, vec![sheet, levels, above]),
         Question::Lowest { sheet, buffer } => (4, vec![sheet, buffer]),
+        Question::Levels { sheet, buffer } => (5, vec![sheet, buffer]),
     };
     stream.push(kind);
     for part in &parts {
@@ -91,7 +92,7 @@ fn read_question(left: &mut &[u8]) -> Result<Question, Fault> {
     let kind = take(left, 1)?[0];
     let parts_of_kind = match kind {
         1 => 1,
-        2 | 4 => 2,
+        2 | 4 | 5 => 2,
         3 => 3,
         _ => return Err(Fault::Malformed),
     };
@@ -114,7 +115,8 @@ fn question(kind: u8, parts: Vec<Vec<u8>>) -> Question {
         1 => Question::Read { sheet: part() },
         2 => Question::Judge { sheet: part(), levels: part() },
         3 => Question::Next { sheet: part(), levels: part(), above: four_bytes(&part()) },
-        _ => Question::Lowest { sheet: part(), buffer: part() },
+        4 => Question::Lowest { sheet: part(), buffer: part() },
+        _ => Question::Levels { sheet: part(), buffer: part() },
     }
 }
 

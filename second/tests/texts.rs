@@ -1,6 +1,6 @@
 //! What is printed: the survey, sheets as people write them, and the question stream with its faults.
 
-use second::cases::{broken_streams, most_dangers, random, stored};
+use second::cases::{broken_streams, most_dangers, random, stored, KINDS};
 use second::making::any_sheet;
 use second::notation::{parse, show};
 use second::questions::Question;
@@ -54,13 +54,15 @@ fn example_of_the_stream() {
         Question::Read { sheet: sheet.clone() },
         Question::Judge { sheet: sheet.clone(), levels: vec![1, 1] },
         Question::Next { sheet: sheet.clone(), levels: vec![0, 0], above: [0; 4] },
-        Question::Lowest { sheet, buffer: vec![0xEE; 3] },
+        Question::Lowest { sheet: sheet.clone(), buffer: vec![0xEE; 3] },
+        Question::Levels { sheet, buffer: vec![0xEE; 3] },
     ];
     let due = "\
 read 2 1 : 0 R0 W0 : 1 R0 W0
 robust
 danger 1 1 2 2 : 2 : 1-2 1-2
 lowest 4 : 01 01 ee
+levels 2 : 00 01 ee
 ";
     assert_eq!(answers(&write(&questions)), due);
 }
@@ -76,6 +78,10 @@ fn refusals_of_arguments() {
     assert_eq!(lowest(&EXAMPLE, vec![7]), "refused 15 at 0 : 07");
     assert_eq!(lowest(&EXAMPLE, vec![]), "refused 15 at 0 :");
     assert_eq!(lowest(&EXAMPLE[..31], vec![7, 8]), "refused 1 at 29 : 07 08");
+    let levels = |sheet: &[u8], buffer| line(Question::Levels { sheet: sheet.to_vec(), buffer });
+    assert_eq!(levels(&EXAMPLE, vec![7]), "refused 15 at 0 : 07");
+    assert_eq!(levels(&EXAMPLE, vec![]), "refused 15 at 0 :");
+    assert_eq!(levels(&EXAMPLE[..31], vec![7]), "refused 1 at 29 : 07");
     let next = |levels| line(Question::Next { sheet: EXAMPLE.to_vec(), levels, above: [255; 4] });
     assert_eq!(next(vec![0, 0]), "end");
     assert_eq!(next(vec![0, 9]), "refused 14 at 1");
@@ -88,19 +94,19 @@ fn faults_of_the_stream() {
     assert_eq!(answers(&[0, 0, 0, 0, 1]), "malformed at question 1\n");
     assert_eq!(answers(&[0, 1, 0x86, 0xA1]), "malformed at question 0\n");
     assert_eq!(answers(&[0, 1, 0x86, 0xA0]), "cut at question 1\n");
-    assert_eq!(answers(&[0, 0, 0, 1, 5]), "malformed at question 1\n");
+    assert_eq!(answers(&[0, 0, 0, 1, 6]), "malformed at question 1\n");
     assert_eq!(answers(&[0, 0, 0, 2, 1, 0, 0, 3, 0, 0]), "refused 1 at 0\ncut at question 2\n");
     assert_eq!(answers(&[0, 0, 0, 1, 3, 0, 0, 0, 0, 0, 3, 0, 0, 0]), "malformed at question 1\n");
     assert_eq!(answers(&[0, 0, 0, 1, 1, 0x10, 0x01]), "malformed at question 1\n");
     assert_eq!(answers(&[0, 0, 0, 1, 1, 0x10, 0x00, 1]), "cut at question 1\n");
-    assert!(broken_streams(&[1, 2, 3, 4]).len() > 100);
+    assert!(broken_streams(KINDS).len() > 100);
 }
 
 #[test]
 fn stored_stream_is_large_enough_and_small_enough() {
-    let stream = write(&stored(&[1, 2, 3, 4]));
+    let stream = write(&stored(KINDS));
     let lines = answers(&stream);
     assert!(lines.lines().count() >= 20_000);
     assert!(stream.len() + lines.len() < 4_000_000);
-    assert_eq!(write(&random(7, 50, &[1, 2, 3, 4])), write(&random(7, 50, &[1, 2, 3, 4])));
+    assert_eq!(write(&random(7, 50, KINDS)), write(&random(7, 50, KINDS)));
 }

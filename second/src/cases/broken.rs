@@ -11,7 +11,7 @@ pub fn broken_streams(kinds: &[u8]) -> Vec<(String, Vec<u8>)> {
     streams.push([good.as_slice(), &[1]].concat());
     let counts = [0, 1, 5, 99_999, 100_000, 100_001, 0x0100_0000, u32::MAX];
     streams.extend(counts.map(|count| changed(&good, 0, &count.to_be_bytes())));
-    streams.extend([0, 5, 255].map(|kind| changed(&good, 4, &[kind])));
+    streams.extend([0, 6, 255].map(|kind| changed(&good, 4, &[kind])));
     for kind in kinds {
         streams.extend(wrong_lengths(*kind));
     }
@@ -26,7 +26,8 @@ fn question(kind: u8) -> Question {
         1 => Question::Read { sheet },
         2 => Question::Judge { sheet, levels },
         3 => Question::Next { sheet, levels, above: [1, 1, 1, 1] },
-        _ => Question::Lowest { sheet, buffer: vec![0xEE; 2] },
+        4 => Question::Lowest { sheet, buffer: vec![0xEE; 2] },
+        _ => Question::Levels { sheet, buffer: vec![0xEE; 2] },
     }
 }
 
@@ -39,7 +40,7 @@ fn changed(good: &[u8], place: usize, new: &[u8]) -> Vec<u8> {
 /// One question with each of its lengths in turn at and about its bounds, before very many bytes.
 fn wrong_lengths(kind: u8) -> Vec<Vec<u8>> {
     let good = [write(&[question(kind)]), vec![1; 3 * 4096]].concat();
-    let parts = [1, 2, 3, 2][usize::from(kind) - 1];
+    let parts = [1, 2, 3, 2, 2][usize::from(kind) - 1];
     let lengths = [0, 3, 4, 5, 4095, 4096, 4097, 0xFFFF_u16];
     let all = (0..parts).flat_map(|part| lengths.map(|length| (part, length)));
     all.map(|(part, length)| changed(&good, 5 + 2 * part, &length.to_be_bytes())).collect()

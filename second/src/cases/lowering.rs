@@ -26,6 +26,6 @@ pub fn cases() -> Vec<Question> {
 }
 
 /// Bytes of which none is a level and neighbours differ.
-fn pattern(length: usize) -> Vec<u8> {
+pub fn pattern(length: usize) -> Vec<u8> {
     (0..length).map(|index| 0xA0 + (index * 7 % 80) as u8).collect()
 }

@@ -27,7 +27,8 @@ fn one(random: &mut Random, kinds: &[u8]) -> Question {
             let above = some_start(random, &sheet, &levels);
             Question::Next { sheet: bytes, levels, above }
         }
-        _ => Question::Lowest { sheet: bytes, buffer: some_buffer(random, sheet.jobs.len()) },
+        4 => Question::Lowest { sheet: bytes, buffer: some_buffer(random, sheet.jobs.len()) },
+        _ => Question::Levels { sheet: bytes, buffer: some_buffer(random, sheet.jobs.len()) },
     }
 }
 

@@ -5,6 +5,7 @@ mod judging;
 mod known;
 mod lowering;
 mod mixed;
+mod own_levels;
 mod reading;
 mod walking;
 
@@ -15,10 +16,10 @@ pub use mixed::random;
 use crate::questions::Question;
 
 /// The kinds of questions that `replies` answers.
-pub const KINDS: &[u8] = &[1, 2, 3, 4];
+pub const KINDS: &[u8] = &[1, 2, 3, 4, 5];
 
 const STORED_SEED: u64 = 1;
-const STORED_RANDOM_OF_EACH_KIND: usize = 4000;
+const STORED_RANDOM_OF_EACH_KIND: usize = 1000;
 
 /// The stored stream: the fixed cases of each kind, then random questions.
 pub fn stored(kinds: &[u8]) -> Vec<Question> {
@@ -32,6 +33,7 @@ fn fixed(kind: u8) -> Vec<Question> {
         1 => reading::cases(),
         2 => judging::cases(),
         3 => walking::cases(),
-        _ => lowering::cases(),
+        4 => lowering::cases(),
+        _ => own_levels::cases(),
     }
 }
