@@ -3,7 +3,7 @@
 use second::notation::{parse, show};
 use second::reader::read;
 use second::{cases, oracle, stream, survey};
-use std::io::{Read, Write};
+use std::io::{BufWriter, Read, Write};
 use std::process::ExitCode;
 
 const USAGE: &str = "\
@@ -39,7 +39,7 @@ fn answer(words: &[String]) -> Result<Vec<u8>, String> {
         ["stored", kinds @ ..] => Ok(stream::write(&cases::stored(&parse_kinds(kinds)?))),
         ["questions", seed, count, kinds @ ..] => random_stream(seed, count, &parse_kinds(kinds)?),
         ["broken", folder, kinds @ ..] => write_broken(folder, &parse_kinds(kinds)?),
-        ["answers"] => Ok(stream::answers(&input()?).into_bytes()),
+        ["answers"] => print_answers(&input()?),
         ["question", number] => Ok(stream::nth(&input()?, parse_number(number)?).into_bytes()),
         ["survey"] => {
             let bytes = input()?;
@@ -62,6 +62,16 @@ fn random_stream(seed: &str, count: &str, kinds: &[u8]) -> Result<Vec<u8>, Strin
         return Err(format!("a stream has at most {} questions", stream::MOST_QUESTIONS));
     }
     Ok(stream::write(&cases::random(parse_number(seed)? as u64, count, kinds)))
+}
+
+/// Line by line, so that a comparison may stop at the first difference.
+fn print_answers(bytes: &[u8]) -> Result<Vec<u8>, String> {
+    let mut out = BufWriter::new(std::io::stdout().lock());
+    for line in stream::answers(bytes) {
+        out.write_all(line.as_bytes()).map_err(|error| error.to_string())?;
+    }
+    out.flush().map_err(|error| error.to_string())?;
+    Ok(Vec::new())
 }
 
 /// A sheet that is read, or the reason why the text makes none.

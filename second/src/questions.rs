@@ -18,6 +18,17 @@ pub enum Question {
 }
 
 impl Question {
+    /// The kind's number in a stream.
+    pub fn kind(&self) -> u8 {
+        match self {
+            Question::Read { .. } => 1,
+            Question::Judge { .. } => 2,
+            Question::Next { .. } => 3,
+            Question::Lowest { .. } => 4,
+            Question::Levels { .. } => 5,
+        }
+    }
+
     /// The answer line, without its line feed.
     pub fn answer(&self) -> String {
         match self {

@@ -14,14 +14,13 @@ pub fn write(questions: &[Question]) -> Vec<u8> {
 }
 
 fn write_question(question: &Question, stream: &mut Vec<u8>) {
-    let (kind, parts): (u8, Vec<&[u8]>) = match question {
-        Question::Read { sheet } => (1, vec![sheet]),
-        Question::Judge { sheet, levels } => (2, vec![sheet, levels]),
-        Question::Next { sheet, levels, above } => (3, vec![sheet, levels, above]),
-        Question::Lowest { sheet, buffer } => (4, vec![sheet, buffer]),
-        Question::Levels { sheet, buffer } => (5, vec![sheet, buffer]),
+    let parts: Vec<&[u8]> = match question {
+        Question::Read { sheet } => vec![sheet],
+        Question::Judge { sheet, levels } => vec![sheet, levels],
+        Question::Next { sheet, levels, above } => vec![sheet, levels, above],
+        Question::Lowest { sheet, buffer } | Question::Levels { sheet, buffer } => vec![sheet, buffer],
     };
-    stream.push(kind);
+    stream.push(question.kind());
     for part in &parts {
         stream.extend((part.len() as u16).to_be_bytes());
     }
@@ -54,38 +53,38 @@ impl Fault {
             Fault::Cut => "cut",
             Fault::Malformed => "malformed",
         };
-        format!("{word} at question {question}")
+        format!("{word} at question {question}\n")
     }
 }
 
-/// All lines that are due for the stream.
-pub fn answers(stream: &[u8]) -> String {
-    let mut lines = Vec::new();
+/// The lines that are due for the stream, each worked out when it is asked for.
+pub fn answers(stream: &[u8]) -> impl Iterator<Item = String> {
+    let mut questions = Vec::new();
+    let fault = read_all(stream, &mut questions).err();
+    questions.into_iter().map(|question| question.answer() + "\n").chain(fault)
+}
+
+/// All questions before the fault, if there is one; then the line that tells of it.
+fn read_all(stream: &[u8], questions: &mut Vec<Question>) -> Result<(), String> {
     let mut left = stream;
-    let mut number = 0;
-    if let Err(fault) = answer_all(&mut left, &mut number, &mut lines) {
-        lines.push(fault.line(number));
+    let count = read_count(&mut left).map_err(|fault| fault.line(0))?;
+    for number in 1..=count {
+        questions.push(read_question(&mut left).map_err(|fault| fault.line(number))?);
     }
-    lines.iter().map(|line| format!("{line}\n")).collect()
+    if left.is_empty() {
+        Ok(())
+    } else {
+        Err(Fault::Malformed.line(count + 1))
+    }
 }
 
-/// `number` is that of the question in hand.
-fn answer_all(left: &mut &[u8], number: &mut usize, lines: &mut Vec<String>) -> Result<(), Fault> {
+fn read_count(left: &mut &[u8]) -> Result<usize, Fault> {
     let count = take(left, 4)?;
     let count = u32::from_be_bytes([count[0], count[1], count[2], count[3]]) as usize;
     if count > MOST_QUESTIONS {
         return Err(Fault::Malformed);
     }
-    for _ in 0..count {
-        *number += 1;
-        lines.push(read_question(left)?.answer());
-    }
-    *number += 1;
-    if left.is_empty() {
-        Ok(())
-    } else {
-        Err(Fault::Malformed)
-    }
+    Ok(count)
 }
 
 fn read_question(left: &mut &[u8]) -> Result<Question, Fault> {

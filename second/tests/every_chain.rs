@@ -123,7 +123,7 @@ fn large_sheets() {
     let count = |sheet: &Sheet| Search::new(sheet).dangers(&sheet.levels()).len();
     assert_eq!(count(&most_dangers()), 246_016);
     assert_eq!(count(&longest()), 0);
-    let ring = ring();
+    let ring = ring(32, 1);
     let around = Search::new(&ring).next(&ring.levels(), [0; 4]).expect("a danger");
     assert_eq!(around.chain.len(), 31);
     let ladder = ladder();

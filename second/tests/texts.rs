@@ -47,6 +47,10 @@ fn notation_tells_what_is_wrong() {
     assert!(parse("RC : R0 : 7").is_err());
 }
 
+fn lines(stream: &[u8]) -> String {
+    answers(stream).collect()
+}
+
 #[test]
 fn example_of_the_stream() {
     let sheet = EXAMPLE.to_vec();
@@ -64,7 +68,7 @@ danger 1 1 2 2 : 2 : 1-2 1-2
 lowest 4 : 01 01 ee
 levels 2 : 00 01 ee
 ";
-    assert_eq!(answers(&write(&questions)), due);
+    assert_eq!(lines(&write(&questions)), due);
 }
 
 #[test]
@@ -89,23 +93,23 @@ fn refusals_of_arguments() {
 
 #[test]
 fn faults_of_the_stream() {
-    assert_eq!(answers(&[0, 0, 0]), "cut at question 0\n");
-    assert_eq!(answers(&[0, 0, 0, 0]), "");
-    assert_eq!(answers(&[0, 0, 0, 0, 1]), "malformed at question 1\n");
-    assert_eq!(answers(&[0, 1, 0x86, 0xA1]), "malformed at question 0\n");
-    assert_eq!(answers(&[0, 1, 0x86, 0xA0]), "cut at question 1\n");
-    assert_eq!(answers(&[0, 0, 0, 1, 6]), "malformed at question 1\n");
-    assert_eq!(answers(&[0, 0, 0, 2, 1, 0, 0, 3, 0, 0]), "refused 1 at 0\ncut at question 2\n");
-    assert_eq!(answers(&[0, 0, 0, 1, 3, 0, 0, 0, 0, 0, 3, 0, 0, 0]), "malformed at question 1\n");
-    assert_eq!(answers(&[0, 0, 0, 1, 1, 0x10, 0x01]), "malformed at question 1\n");
-    assert_eq!(answers(&[0, 0, 0, 1, 1, 0x10, 0x00, 1]), "cut at question 1\n");
+    assert_eq!(lines(&[0, 0, 0]), "cut at question 0\n");
+    assert_eq!(lines(&[0, 0, 0, 0]), "");
+    assert_eq!(lines(&[0, 0, 0, 0, 1]), "malformed at question 1\n");
+    assert_eq!(lines(&[0, 1, 0x86, 0xA1]), "malformed at question 0\n");
+    assert_eq!(lines(&[0, 1, 0x86, 0xA0]), "cut at question 1\n");
+    assert_eq!(lines(&[0, 0, 0, 1, 6]), "malformed at question 1\n");
+    assert_eq!(lines(&[0, 0, 0, 2, 1, 0, 0, 3, 0, 0]), "refused 1 at 0\ncut at question 2\n");
+    assert_eq!(lines(&[0, 0, 0, 1, 3, 0, 0, 0, 0, 0, 3, 0, 0, 0]), "malformed at question 1\n");
+    assert_eq!(lines(&[0, 0, 0, 1, 1, 0x10, 0x01]), "malformed at question 1\n");
+    assert_eq!(lines(&[0, 0, 0, 1, 1, 0x10, 0x00, 1]), "cut at question 1\n");
     assert!(broken_streams(KINDS).len() > 100);
 }
 
 #[test]
 fn stored_stream_is_large_enough_and_small_enough() {
     let stream = write(&stored(KINDS));
-    let lines = answers(&stream);
+    let lines = lines(&stream);
     assert!(lines.lines().count() >= 20_000);
     assert!(stream.len() + lines.len() < 4_000_000);
     assert_eq!(write(&random(7, 50, KINDS)), write(&random(7, 50, KINDS)));

@@ -1,12 +1,12 @@
 //! Streams that are cut or malformed, each in one of the ways that docs/REPLIES.md lists, and whole ones beside them.
 
-use super::known;
-use crate::questions::Question;
+use super::{known, sized, Question};
 use crate::stream::write;
 
 /// The streams for questions of these kinds, each with a name.
 pub fn broken_streams(kinds: &[u8]) -> Vec<(String, Vec<u8>)> {
-    let good = write(&kinds.iter().map(|kind| question(*kind)).collect::<Vec<_>>());
+    let questions: Vec<Question> = kinds.iter().map(|kind| question(*kind)).collect();
+    let good = write(&questions);
     let mut streams: Vec<Vec<u8>> = (0..=good.len()).map(|length| good[..length].to_vec()).collect();
     streams.push([good.as_slice(), &[1]].concat());
     let counts = [0, 1, 5, 99_999, 100_000, 100_001, 0x0100_0000, u32::MAX];
@@ -15,6 +15,7 @@ pub fn broken_streams(kinds: &[u8]) -> Vec<(String, Vec<u8>)> {
     for kind in kinds {
         streams.extend(wrong_lengths(*kind));
     }
+    streams.extend(sized::streams(&questions));
     let name = |(number, stream)| (format!("{number:03}"), stream);
     streams.into_iter().enumerate().map(name).collect()
 }

@@ -1,9 +1,8 @@
 //! Cases for the verdict: every list of levels for the small sheets, and lists that are refused.
 
-use super::known;
+use super::{bytes, known, Question};
 use crate::lowest::every_list;
-use crate::questions::Question;
-use crate::sheet::{Level, Sheet};
+use crate::sheet::Sheet;
 
 pub fn cases() -> Vec<Question> {
     let mut cases = every_verdict();
@@ -23,13 +22,9 @@ fn every_verdict() -> Vec<Question> {
     cases
 }
 
-pub fn bytes(levels: &[Level]) -> Vec<u8> {
-    levels.iter().map(|level| level.byte()).collect()
-}
-
 /// All jobs at one level.
 fn large_sheets() -> Vec<Question> {
-    let sheets = [known::longest(), known::many_short(), known::most_dangers(), known::ring(), known::ladder()];
+    let sheets = [known::longest(), known::many_short(), known::most_dangers(), known::ring(32, 1), known::ladder()];
     let at = |sheet: &Sheet, level| Question::Judge { sheet: sheet.bytes(), levels: vec![level; sheet.jobs.len()] };
     sheets.iter().flat_map(|sheet| [0, 1, 2].map(|level| at(sheet, level))).collect()
 }

@@ -28,6 +28,12 @@ pub fn sheet(text: &str) -> Sheet {
     parse(text).expect("a sheet as people write it")
 }
 
+/// The jobs with all of them at one level.
+pub fn at(level: Level, jobs: &str) -> Sheet {
+    let count = jobs.split('|').count();
+    sheet(&format!("{}: {jobs}", format!("{} ", level.name()).repeat(count)))
+}
+
 /// The sheet that document 01 prints with `survey`.
 pub fn example() -> Sheet {
     sheet("RC SI : R0 W0 | R0 W0")
@@ -63,10 +69,15 @@ pub fn most_dangers() -> Sheet {
     Sheet { objects: 8, jobs: vec![job(Level::Rc, &operations); 32] }
 }
 
-/// Each job reads its own object and writes the next one's: the longest chains.
-pub fn ring() -> Sheet {
-    let jobs = (0..32).map(|number| job(Level::Si, &[(Kind::Read, number), (Kind::Write, (number + 1) % 32)]));
-    Sheet { objects: 32, jobs: jobs.collect() }
+/// Each job reads its own object and writes the one so many steps further: the longest chains.
+pub fn ring(jobs: usize, step: usize) -> Sheet {
+    let one = |number| job(Level::Si, &[(Kind::Read, number), (Kind::Write, (number + step) % jobs)]);
+    Sheet { objects: jobs as u16, jobs: (0..jobs).map(one).collect() }
+}
+
+/// 32 jobs that all read and write one object: each is split by each two others, or one.
+pub fn crowd() -> Sheet {
+    Sheet { objects: 1, jobs: vec![job(Level::Rc, &[(Kind::Read, 0), (Kind::Write, 0)]); 32] }
 }
 
 /// Fourteen steps of two jobs each between the first and the last job: equal chains without number.

@@ -5,7 +5,7 @@ use crate::questions::Question;
 
 pub fn cases() -> Vec<Question> {
     let mut sheets: Vec<Vec<u8>> = known::small().iter().map(|sheet| sheet.bytes()).collect();
-    sheets.extend([known::many_short().bytes(), known::ring().bytes()]);
+    sheets.extend([known::many_short().bytes(), known::ring(32, 1).bytes()]);
     let mut wrong = known::example().bytes();
     wrong[15] = 0;
     sheets.push(wrong);

@@ -1,6 +1,6 @@
 //! Random questions: sheets of many shapes, whole and damaged, with levels, four numbers and buffers that fit or don't.
 
-use super::judging::bytes;
+use super::bytes;
 use super::walking::around;
 use crate::dangers::Dangers;
 use crate::lowest::by_rule;

@@ -28,7 +28,7 @@ pub fn cases() -> Vec<Question> {
 /// The edges that document 01 lists, and the sheets with a name.
 fn edges() -> Vec<Vec<u8>> {
     let mut sheets: Vec<Vec<u8>> = known::small().iter().map(Sheet::bytes).collect();
-    for sheet in [known::longest(), known::many_short(), known::most_dangers(), known::ring(), known::ladder()] {
+    for sheet in [known::longest(), known::many_short(), known::most_dangers(), known::ring(32, 1), known::ladder()] {
         sheets.push(sheet.bytes());
     }
     let mut missing_job = known::example().bytes();
@@ -142,6 +142,9 @@ fn two_faults() -> Vec<Vec<u8>> {
         both((5, 0xFF), (10, 9)),
         both((7, 9), (9, 1)),
         both((9, 7), (10, 9)),
+        both((9, 2), (10, 9)),
+        both((9, 2), (11, 0)),
+        both((9, 2), (11, 17)),
         both((10, 9), (11, 0)),
         both((11, 17), (9, 20)),
         both((11, 3), (12, 7)),
