@@ -29,6 +29,16 @@ impl Question {
         }
     }
 
+    pub fn sheet(&self) -> &[u8] {
+        match self {
+            Question::Read { sheet }
+            | Question::Judge { sheet, .. }
+            | Question::Next { sheet, .. }
+            | Question::Lowest { sheet, .. }
+            | Question::Levels { sheet, .. } => sheet,
+        }
+    }
+
     /// The answer line, without its line feed.
     pub fn answer(&self) -> String {
         match self {

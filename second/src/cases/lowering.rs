@@ -1,11 +1,10 @@
-//! Cases for the lowest levels: answer buffers of every length from 0 to 40, with a pattern.
+//! Cases for the lowest levels: answer buffers of every length from 0 to 40 with a pattern, and about 32 for 32 jobs.
 
 use super::known;
 use crate::questions::Question;
 
 pub fn cases() -> Vec<Question> {
     let mut sheets: Vec<Vec<u8>> = known::small().iter().map(|sheet| sheet.bytes()).collect();
-    sheets.extend([known::many_short().bytes(), known::ring(32, 1).bytes()]);
     let mut wrong = known::example().bytes();
     wrong[15] = 0;
     sheets.push(wrong);
@@ -15,8 +14,9 @@ pub fn cases() -> Vec<Question> {
             cases.push(Question::Lowest { sheet: sheet.clone(), buffer: pattern(length) });
         }
     }
-    for sheet in [known::longest(), known::most_dangers(), known::ladder()] {
-        for length in [31, 32, 33] {
+    let large = [known::many_short(), known::ring(32, 1), known::longest(), known::most_dangers(), known::ladder()];
+    for sheet in large {
+        for length in [0, 31, 32, 33] {
             cases.push(Question::Lowest { sheet: sheet.bytes(), buffer: pattern(length) });
         }
     }

@@ -5,7 +5,7 @@ use super::walking::walk;
 use super::{bytes, known, Question};
 use crate::sheet::{Job, Kind, Level, Operation, Sheet, LEVELS};
 
-/// T1, T2, the job in the middle and Tm.
+/// Places of T1, T2, the job in the middle and Tm.
 const ROLES: [[usize; 4]; 8] = [
     [1, 31, 16, 32],
     [1, 32, 31, 16],
@@ -19,11 +19,24 @@ const ROLES: [[usize; 4]; 8] = [
 
 const CHAIN: &str = "R0 W1 | W0 W2 | R2 W3 | R3 R1";
 
+/// Places of T1, T2, the jobs in the middle and Tm, and of two jobs that lead nowhere, one beside T2 and one beside Tm.
+const DEAD_ENDS: [[usize; 7]; 3] = [[1, 2, 3, 32, 5, 6, 7], [1, 2, 32, 3, 4, 31, 30], [32, 31, 1, 30, 29, 2, 3]];
+
+const BESIDE: &str = "R0 W1 | W0 W2 W6 | R2 W3 | R3 W4 | R4 R1 W5 | R6 | R5";
+
+/// b1 is the last of 16 operations, and nothing else is a danger where the others are above RC.
+const LAST_OPERATION: &str = "W1 R3 R4 R5 R6 R7 R8 R9 R10 R11 R12 R13 R14 R15 R16 R0 | W0 W2 | R2 R1";
+
 pub fn cases() -> Vec<Question> {
     let mut cases = Vec::new();
     for roles in ROLES {
-        cases.extend(asked(&in_roles(roles), &[Level::Si]));
+        cases.extend(asked(&in_roles(CHAIN, &roles), &[Level::Si]));
     }
+    for roles in DEAD_ENDS {
+        cases.extend(asked(&in_roles(BESIDE, &roles), &[Level::Si]));
+    }
+    let sheet = known::at(Level::Rc, LAST_OPERATION).bytes();
+    cases.push(Question::Judge { sheet, levels: vec![0, 1, 1] });
     let jobs = known::at(Level::Rc, CHAIN);
     let returning = known::at(Level::Rc, "R0 R1 | W0 W1");
     for sheet in [jobs, returning] {
@@ -46,10 +59,11 @@ fn asked(sheet: &Sheet, levels: &[Level]) -> Vec<Question> {
     cases
 }
 
-/// The chain's jobs at these places of a sheet of 32 jobs, whose others read an object that nobody writes.
-fn in_roles(roles: [usize; 4]) -> Sheet {
+/// The jobs at these places of a sheet of 32 jobs, whose others read an object that nobody writes.
+fn in_roles(jobs: &str, roles: &[usize]) -> Sheet {
+    let some = known::at(Level::Rc, jobs).jobs;
     let mut jobs = vec![idle(&[9]); 32];
-    for (job, place) in known::at(Level::Rc, CHAIN).jobs.into_iter().zip(roles) {
+    for (job, place) in some.into_iter().zip(roles) {
         jobs[place - 1] = job;
     }
     Sheet { objects: 10, jobs }

@@ -6,8 +6,8 @@ use crate::stream::write;
 
 const INPUT_BUFFER: usize = 65_536;
 
-/// The streams, each ending with the last of these questions but for a byte or a question.
-pub fn streams(last: &[Question]) -> Vec<Vec<u8>> {
+/// Streams about one and two buffers long, and streams in which a buffer ends within one of these questions.
+pub fn streams(parted: &[Question]) -> Vec<Vec<u8>> {
     let mut streams = Vec::new();
     for length in [INPUT_BUFFER, 2 * INPUT_BUFFER].into_iter().flat_map(|buffers| buffers - 1..=buffers + 1) {
         let whole = write(&questions_up_to(length));
@@ -16,9 +16,9 @@ pub fn streams(last: &[Question]) -> Vec<Vec<u8>> {
         let less = [count.to_be_bytes().as_slice(), &whole[4..]].concat();
         streams.extend([whole, more, less]);
     }
-    // The buffer's end stands before each byte of the questions' kinds and lengths in turn.
+    // The buffer ends before each byte of a question's kind and lengths in turn, and behind them.
     for before in 0..8 {
-        for question in last {
+        for question in parted {
             let start = questions_up_to(INPUT_BUFFER - before);
             streams.push(write(&[start.as_slice(), &[question.clone()]].concat()));
         }
