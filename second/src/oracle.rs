@@ -7,12 +7,12 @@ use crate::questions::{pairs_text, read_levels};
 use crate::reader::read;
 use crate::refusal::{refuse_if, Reason, Refusal};
 use crate::search::Search;
-use crate::sheet::Sheet;
+use crate::sheet::{Level, Sheet};
 use crate::split::{Four, Split};
-use crate::survey::{danger_text, lowest_text};
+use crate::survey::{danger_text, lowest_text, names_text};
 
-/// The lines for `read`, `judge LEVELS`, `step LEVELS T1 b1 T2 Tm`, `walk LEVELS` or `lowest ROOM`, levels in
-/// hexadecimal. `--fast` before it asks for the plain search, otherwise every chain is tried.
+/// The lines for `read`, `levels ROOM`, `judge LEVELS`, `step LEVELS T1 b1 T2 Tm`, `walk LEVELS` or `lowest ROOM`, levels
+/// in hexadecimal. `--fast` before it asks for the plain search, otherwise every chain is tried.
 pub fn oracle(words: &[String], bytes: &[u8]) -> Result<String, String> {
     let fast = words.first().is_some_and(|word| word == "--fast");
     let words = &words[usize::from(fast)..];
@@ -24,6 +24,7 @@ pub fn oracle(words: &[String], bytes: &[u8]) -> Result<String, String> {
     let words: Vec<&str> = words.iter().map(String::as_str).collect();
     let lines = match words.as_slice() {
         ["read"] => Ok("read\n".to_string()),
+        ["levels", room] => levels_line(&sheet, number(room)?),
         ["judge", levels] => judge_line(&sheet, &dangers, &hex(levels)?),
         ["step", levels, t1, b1, t2, tm] => {
             let above = [number(t1)?, number(b1)?, number(t2)?, number(tm)?];
@@ -40,6 +41,12 @@ fn lowest_line(sheet: &Sheet, dangers: &Dangers, room: usize) -> Result<String, 
     refuse_if(room < sheet.jobs.len(), Reason::BufferShort, 0)?;
     let (levels, asked) = lowest(sheet.jobs.len(), dangers);
     Ok(format!("{} asked {asked}\n", lowest_text(&levels)))
+}
+
+fn levels_line(sheet: &Sheet, room: usize) -> Result<String, Refusal> {
+    refuse_if(room < sheet.jobs.len(), Reason::BufferShort, 0)?;
+    let levels: Vec<Level> = sheet.jobs.iter().map(|job| job.level).collect();
+    Ok(format!("levels{} jobs {}\n", names_text(&levels), levels.len()))
 }
 
 fn judge_line(sheet: &Sheet, dangers: &Dangers, levels: &[u8]) -> Result<String, Refusal> {

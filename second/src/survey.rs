@@ -36,6 +36,10 @@ pub fn danger_text(split: &Split) -> String {
 
 /// `lowest` and the names of the levels.
 pub fn lowest_text(levels: &[Level]) -> String {
-    let names: String = levels.iter().map(|level| format!(" {}", level.name())).collect();
-    format!("lowest{names}")
+    format!("lowest{}", names_text(levels))
+}
+
+/// A space and the name of each.
+pub fn names_text(levels: &[Level]) -> String {
+    levels.iter().map(|level| format!(" {}", level.name())).collect()
 }
