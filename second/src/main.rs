@@ -9,7 +9,7 @@ use std::process::ExitCode;
 const USAGE: &str = "\
 second stored [KINDS]                 the stream of questions that is stored; KINDS as 1,2,3,4,5
 second questions SEED COUNT [KINDS]   a stream of so many random questions
-second broken FOLDER [KINDS]          streams that are cut or malformed, into files
+second broken FOLDER [KINDS]          streams that are cut, malformed or end at a buffer's size, into files
 second answers < stream               the lines that are due
 second question N < stream            the question of that number, readable
 second survey < sheet                 what `survey` prints

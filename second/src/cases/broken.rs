@@ -1,4 +1,5 @@
-//! Streams that are cut or malformed, each in one of the ways that docs/REPLIES.md lists, and whole ones beside them.
+//! Streams that are cut or malformed, each in one of the ways that docs/REPLIES.md lists, and whole ones beside them,
+//! some about as long as an input buffer.
 
 use super::{known, sized, Question};
 use crate::stream::write;
@@ -9,7 +10,8 @@ pub fn broken_streams(kinds: &[u8]) -> Vec<(String, Vec<u8>)> {
     let good = write(&questions);
     let mut streams: Vec<Vec<u8>> = (0..=good.len()).map(|length| good[..length].to_vec()).collect();
     streams.push([good.as_slice(), &[1]].concat());
-    let counts = [0, 1, 5, 99_999, 100_000, 100_001, 0x0100_0000, u32::MAX];
+    let one_more = questions.len() as u32 + 1;
+    let counts = [0, 1, one_more, 99_999, 100_000, 100_001, 0x0100_0000, u32::MAX];
     streams.extend(counts.map(|count| changed(&good, 0, &count.to_be_bytes())));
     streams.extend([0, 6, 255].map(|kind| changed(&good, 4, &[kind])));
     for kind in kinds {

@@ -8,7 +8,7 @@ use super::{bytes, Question};
 use crate::sheet::{Level, Sheet, LEVELS};
 
 /// The jobs; the levels are put to them below.
-const TELLING: [&str; 27] = [
+const TELLING: [&str; 28] = [
     // Condition 1: job 3 in the middle is free of T1, or ww, rw, wr with it; of two middle jobs either may not be free.
     "R0 W1 | W0 W2 | R2 W3 | R3 R1",
     "R0 W1 W4 | W0 W2 | R2 W3 W4 | R3 R1",
@@ -38,6 +38,8 @@ const TELLING: [&str; 27] = [
     "W1 R0 R2 | W0 R1 W2",
     "W1 R0 R2 | W2 W0 R1",
     "W1 R0 R2 | W0 W3 | R3 W2 R1",
+    // T2 and Tm have two pairs: the lower one by T2's operation is the higher one by Tm's.
+    "R0 W1 | W0 W3 W2 | R2 R3 R1",
     // Conditions 6, 7 (T1 is wr with T2) and 8 (T1 is rw with Tm), for T2 and Tm apart; for one job both 7 and 8.
     "R0 W1 | W0 W2 | R2 R1",
     "R0 W1 W3 | W0 W2 R3 | R2 R1",
