@@ -1,6 +1,5 @@
 // The questions that come with an answer buffer, for the lowest levels and for the sheet's own: kinds 4 and 5 of docs/REPLIES.md.
 use crate::put_refusal;
-use planner::Copied;
 use planner::Handed;
 use text::put;
 use text::put_hex;
@@ -15,31 +14,22 @@ fn put_buffer(buffer: &[u8], out: &mut [u8], used: &mut usize) {
     }
 }
 
-fn put_named(word: &[u8], n: u32, out: &mut [u8], used: &mut usize) {
-    put_word(out, used, word);
-    put_number(out, used, n as u64);
-}
-
-fn put_handed(handed: Handed, out: &mut [u8], used: &mut usize) {
+fn put_handed(word: &[u8], handed: Handed, out: &mut [u8], used: &mut usize) {
     match handed {
-        Handed::Asked(n) => put_named(b"lowest ", n, out, used),
+        Handed::Number(n) => {
+            put_word(out, used, word);
+            put_number(out, used, n as u64);
+        }
         Handed::Refused(r) => put_refusal(r, out, used),
     }
 }
 
-fn put_copied(copied: Copied, out: &mut [u8], used: &mut usize) {
-    match copied {
-        Copied::Jobs(n) => put_named(b"levels ", n, out, used),
-        Copied::Refused(r) => put_refusal(r, out, used),
-    }
-}
-
 pub fn put_lowest(sheet: &[u8], buffer: &mut [u8], out: &mut [u8], used: &mut usize) {
-    put_handed(planner::lowest(sheet, buffer), out, used);
+    put_handed(b"lowest ", planner::lowest(sheet, buffer), out, used);
     put_buffer(buffer, out, used);
 }
 
 pub fn put_levels(sheet: &[u8], buffer: &mut [u8], out: &mut [u8], used: &mut usize) {
-    put_copied(planner::own_levels(sheet, buffer), out, used);
+    put_handed(b"levels ", planner::own_levels(sheet, buffer), out, used);
     put_buffer(buffer, out, used);
 }

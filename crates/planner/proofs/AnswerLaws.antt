@@ -25,6 +25,7 @@ use Rattle.planner.specs.declared.levels.Checked.{Checked}
 use Rattle.planner.specs.declared.levels.Checked.the-variants as checked
 use Rattle.planner.specs.declared.Walk.the-variants as walk
 use Rattle.planner.specs.declared.WalkAnswer.{WalkAnswer}
+use Rattle.planner.specs.declared.Handed.the-variants as handed
 use Rattle.walk.specs.declared.four.Four.{Four}
 
 module _ {A B : Type 0} (R : A → B → Type 0) (x : Step A) where
@@ -92,15 +93,15 @@ module _ (s ls : List ℕ) (above : Four) (a : WalkAnswer) where
     refused = λ r e. absurd (rw e at told);
   }
 
--- a number with an answer buffer, over what stands in the buffer
+-- levels handed out, over what stands in the buffer
 module _ (R : Table → (before after : List ℕ) → ℕ → Type 0) (s before : List ℕ) where
-  pub buffer-kept : (r : Refusal) → withRoom s (length before) ≡ faultOf r → InBuffer R s before before (faultOf r)
-  buffer-kept r e = record { outcome = answers-refused (λ t. R t before before) _ r e; refused = λ _ _ _. refl }
+  pub buffer-kept : (r : Refusal) → withRoom s (length before) ≡ faultOf r → InBuffer R s before before (handed.Refused r)
+  buffer-kept r e = record { outcome = answers-refused (λ t. R t before before) _ r e; refused = λ _ _. refl }
 
-  pub buffer-filled : (t : Table) → Ready (byRoom (length before)) s t → (after : List ℕ) (n : ℕ) → R t before after n → InBuffer R s before after (ok n)
+  pub buffer-filled : (t : Table) → Ready (byRoom (length before)) s t → (after : List ℕ) (n : ℕ) → R t before after n → InBuffer R s before after (handed.Number n)
   buffer-filled t h after n filled = record {
     outcome = answers-passed (λ t. R t before after) _ t n (h .passed) filled;
-    refused = λ number place f. let z : _≡_ {A = ℕ} 0 1 = cc in absurd (omega arith);
+    refused = λ r f. let z : _≡_ {A = ℕ} 0 1 = cc in absurd (omega arith);
   }
 
 -- the first bytes of the buffer copied from the levels of the table

@@ -28,8 +28,6 @@ use Rattle.planner.specs.declared.Walk.the-variants as walk
 use Rattle.planner.specs.declared.WalkAnswer.{WalkAnswer}
 use Rattle.planner.specs.declared.Handed.{Handed}
 use Rattle.planner.specs.declared.Handed.the-variants as handed
-use Rattle.planner.specs.declared.Copied.{Copied}
-use Rattle.planner.specs.declared.Copied.the-variants as copied
 
 -- the answer to a question that was checked: the fault that was met, or a value in the relation R to what passed
 abbrev pub Answers : {A B : Type 0} → (A → B → Type 0) → Step A → Step B → Type 0
@@ -79,24 +77,20 @@ pub record Walked (s ls : List ℕ) (above : Four) (a : WalkAnswer) : Type 0 whe
   pub outcome : Answers (λ t. Walks ls above a (jobsOf t)) (withLevels s ls) (walkOf (a .walk))
   pub refused : (r : Refusal) → a .walk ≡ walk.Refused r → NoChain a
 
+-- levels handed out in the answer buffer: a number, or the refusal
+abbrev pub handedOf : Handed → Step ℕ
+handedOf (handed.Number n) = ok n
+handedOf (handed.Refused r) = faultOf r
+
 -- A number, with what stands in the answer buffer afterwards in the relation R to the table that was read; or the refusal, and every
 -- byte as found
-pub record InBuffer (R : Table → (before after : List ℕ) → ℕ → Type 0) (s before after : List ℕ) (a : Step ℕ) : Type 0 where
-  pub outcome : Answers (λ t. R t before after) (withRoom s (length before)) a
-  pub refused : (number place : ℕ) → a ≡ fault number place → after ≡ before
+pub record InBuffer (R : Table → (before after : List ℕ) → ℕ → Type 0) (s before after : List ℕ) (a : Handed) : Type 0 where
+  pub outcome : Answers (λ t. R t before after) (withRoom s (length before)) (handedOf a)
+  pub refused : (r : Refusal) → a ≡ handed.Refused r → after ≡ before
 
 -- `lowest`: the number asked, the lowest levels being in the first bytes of the buffer and the rest as found; or the refusal
-abbrev pub askedOf : Handed → Step ℕ
-askedOf (handed.Asked n) = ok n
-askedOf (handed.Refused r) = faultOf r
-
 abbrev pub LowestHanded : (s before after : List ℕ) → Handed → Type 0
-LowestHanded s before after a = InBuffer (λ t. Lowers form1 (jobsOf t)) s before after (askedOf a)
-
--- `own_levels`: the number of jobs, the levels that the sheet itself names being in the first bytes of the buffer; or the refusal
-abbrev pub copiedOf : Copied → Step ℕ
-copiedOf (copied.Jobs n) = ok n
-copiedOf (copied.Refused r) = faultOf r
+LowestHanded = InBuffer (λ t. Lowers form1 (jobsOf t))
 
 -- The sheet's own levels stand in the first places, the others are as before, and n is the number of jobs.
 pub record Copies (t : Table) (before after : List ℕ) (n : ℕ) : Type 0 where
@@ -105,5 +99,6 @@ pub record Copies (t : Table) (before after : List ℕ) (n : ℕ) : Type 0 where
   pub kept : drop (t .jobs) after ≡ drop (t .jobs) before
   pub number : n ≡ t .jobs
 
-abbrev pub LevelsCopied : (s before after : List ℕ) → Copied → Type 0
-LevelsCopied s before after a = InBuffer Copies s before after (copiedOf a)
+-- `own_levels`: the number of jobs, the levels that the sheet itself names being in the first bytes of the buffer; or the refusal
+abbrev pub LevelsCopied : (s before after : List ℕ) → Handed → Type 0
+LevelsCopied = InBuffer Copies

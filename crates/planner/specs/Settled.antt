@@ -12,18 +12,17 @@ use Rattle.theory.specs.Form1.{form1}
 use Rattle.theory.specs.Planner.{Robust₁, Shown₁, one-answer₁, one-shown₁}
 use Rattle.theory.specs.Walk as theory
 use Rattle.sheet.specs.Step.{Step, ok, fault}
-use Rattle.sheet.specs.Answer.{faultOf}
 use Rattle.sheet.specs.AnswerLaws.{fault-tells}
 use Rattle.sheet.specs.Jobs.{jobsOf}
 use Rattle.sheet.specs.declared.Refusal.{Refusal}
 use Rattle.sheet.specs.declared.Table.{Table}
-use Rattle.verdict.specs.Verdict.{Tells, Lowers}
+use Rattle.verdict.specs.Verdict.{Tells}
 use Rattle.verdict.specs.SettledLaws.{one-verdict, one-lowering, same-bytes}
 use Rattle.walk.specs.Answers.{named}
 use Rattle.walk.specs.ShownIn.{pairRow}
 use Rattle.walk.specs.declared.four.Four.{Four}
 use Rattle.planner.specs.Checks.{withLevels, withRoom}
-use Rattle.planner.specs.Questions.{Answers, verdictOf, Judged, walkOf, Beside, Walks, ChainBeside, NoChain, Walked, InBuffer, askedOf, LowestHanded, copiedOf, Copies, LevelsCopied}
+use Rattle.planner.specs.Questions.{Answers, verdictOf, Judged, walkOf, Beside, Walks, ChainBeside, NoChain, Walked, handedOf, InBuffer, LowestHanded, Copies, LevelsCopied}
 use Rattle.planner.specs.declared.Verdict.{Verdict}
 use Rattle.planner.specs.declared.Verdict.the-variants as verdict
 use Rattle.planner.specs.declared.Walk.{Walk}
@@ -31,8 +30,6 @@ use Rattle.planner.specs.declared.Walk.the-variants as walk
 use Rattle.planner.specs.declared.WalkAnswer.{WalkAnswer}
 use Rattle.planner.specs.declared.Handed.{Handed}
 use Rattle.planner.specs.declared.Handed.the-variants as handed
-use Rattle.planner.specs.declared.Copied.{Copied}
-use Rattle.planner.specs.declared.Copied.the-variants as copied
 
 -- where each relation leaves one value, there is one answer to what was checked
 answers-once :
@@ -160,57 +157,30 @@ walk-settled s ls above a b p q =
     let h = alike ls above a b (withLevels s ls) e (p .outcome) (q .outcome) (p .refused) (q .refused) in
     λ i. record { walk = w i; length = h .length-is i; chain = h .chain-is i; pairs = h .pairs-are i }
 
--- a number with an answer buffer: the answer, and each byte of the buffer afterwards
+-- levels handed out: the answer, and each byte of the buffer afterwards
 buffer-settled :
     (R : Table → (before after : List ℕ) → ℕ → Type 0) (s before x y : List ℕ)
     → ((t : Table) (n m : ℕ) → R t before x n → R t before y m → (x ≡ y) × (n ≡ m))
-    → (a b : Step ℕ) → InBuffer R s before x a → InBuffer R s before y b → (a ≡ b) × (x ≡ y)
+    → (a b : Handed) → InBuffer R s before x a → InBuffer R s before y b → (a ≡ b) × (x ≡ y)
 buffer-settled R s before x y once a b p q = cases (withRoom s (length before)) a b (p .outcome) (q .outcome) (p .refused) (q .refused)
   where
     cases :
-        (r : Step Table) (a b : Step ℕ) → Answers (λ t. R t before x) r a → Answers (λ t. R t before y) r b
-        → ((number place : ℕ) → a ≡ fault number place → x ≡ before) → ((number place : ℕ) → b ≡ fault number place → y ≡ before)
+        (c : Step Table) (a b : Handed) → Answers (λ t. R t before x) c (handedOf a) → Answers (λ t. R t before y) c (handedOf b)
+        → ((r : Refusal) → a ≡ handed.Refused r → x ≡ before) → ((r : Refusal) → b ≡ handed.Refused r → y ≡ before)
         → (a ≡ b) × (x ≡ y)
-    cases (ok t) (ok n) (ok m) h k f g = let one = once t n m h k in (ap ok (one .1), one .0)
-    cases (ok t) (ok n) (fault i j) h k f g = absurd k
-    cases (ok t) (fault i j) b h k f g = absurd h
-    cases (fault i j) (ok n) b h k f g = absurd h
-    cases (fault i j) (fault n p) (ok m) h k f g = absurd k
-    cases (fault i j) (fault n p) (fault m q) h k f g = (ap₂ fault (sym (h .0) ∙ k .0) (sym (h .1) ∙ k .1), f n p refl ∙ sym (g m q refl))
-
--- an enum of a number or a refusal: which of them a is, and what it tells
-pub data Numbered {A : Type 0} (number : ℕ → A) (turned : Refusal → A) (told : A → Step ℕ) (a : A) : Type 0 where
-  numbered : (n : ℕ) → a ≡ number n → told a ≡ ok n → Numbered number turned told a
-  refused : (r : Refusal) → a ≡ turned r → told a ≡ faultOf r → Numbered number turned told a
-
-numbered-tells :
-    {A : Type 0} (number : ℕ → A) (turned : Refusal → A) (told : A → Step ℕ) (a b : A)
-    → Numbered number turned told a → Numbered number turned told b → told a ≡ told b → a ≡ b
-numbered-tells number turned told a b (numbered n p f) (numbered m q g) e = let d : n ≡ m = cc in p ∙ ap number d ∙ sym q
-numbered-tells number turned told a b (numbered n p f) (refused r q g) e = absurd (let z : _≡_ {A = ℕ} 0 1 = cc in omega arith)
-numbered-tells number turned told a b (refused r p f) (numbered m q g) e = absurd (let z : _≡_ {A = ℕ} 0 1 = cc in omega arith)
-numbered-tells number turned told a b (refused r p f) (refused l q g) e = p ∙ ap turned (fault-tells {A = ℕ} r l (sym f ∙ e ∙ g)) ∙ sym q
-
--- `lowest`
-pub asked-numbered : (a : Handed) → Numbered handed.Asked handed.Refused askedOf a
-asked-numbered (handed.Asked n) = numbered n refl refl
-asked-numbered (handed.Refused r) = refused r refl refl
+    cases (ok t) (handed.Number n) (handed.Number m) h k f g = let one = once t n m h k in (ap handed.Number (one .1), one .0)
+    cases (ok t) (handed.Number n) (handed.Refused r) h k f g = absurd k
+    cases (ok t) (handed.Refused r) b h k f g = absurd h
+    cases (fault i j) (handed.Number n) b h k f g = absurd h
+    cases (fault i j) (handed.Refused r) (handed.Number m) h k f g = absurd k
+    cases (fault i j) (handed.Refused r) (handed.Refused l) h k f g =
+        (ap handed.Refused (fault-tells {A = ℕ} r l (ap₂ fault (sym (h .0) ∙ k .0) (sym (h .1) ∙ k .1))), f r refl ∙ sym (g l refl))
 
 pub lowest-settled : (s before x y : List ℕ) (a b : Handed) → LowestHanded s before x a → LowestHanded s before y b → (a ≡ b) × (x ≡ y)
-lowest-settled s before x y a b p q =
-    let R : Table → (before after : List ℕ) → ℕ → Type 0 = λ t. Lowers form1 (jobsOf t) in
-    let one = buffer-settled R s before x y (λ t. one-lowering form1 (jobsOf t) before x y) _ _ p q in
-    (numbered-tells _ _ _ a b (asked-numbered a) (asked-numbered b) (one .0), one .1)
-
--- `own_levels`
-pub copied-numbered : (a : Copied) → Numbered copied.Jobs copied.Refused copiedOf a
-copied-numbered (copied.Jobs n) = numbered n refl refl
-copied-numbered (copied.Refused r) = refused r refl refl
+lowest-settled s before x y = buffer-settled _ s before x y (λ t. one-lowering form1 (jobsOf t) before x y)
 
 one-copy : (t : Table) (before x y : List ℕ) (n m : ℕ) → Copies t before x n → Copies t before y m → (x ≡ y) × (n ≡ m)
 one-copy t before x y n m p q = (same-bytes (t .jobs) x y (p .levels ∙ sym (q .levels)) (p .kept ∙ sym (q .kept)), p .number ∙ sym (q .number))
 
-pub levels-settled : (s before x y : List ℕ) (a b : Copied) → LevelsCopied s before x a → LevelsCopied s before y b → (a ≡ b) × (x ≡ y)
-levels-settled s before x y a b p q =
-    let one = buffer-settled Copies s before x y (λ t. one-copy t before x y) _ _ p q in
-    (numbered-tells _ _ _ a b (copied-numbered a) (copied-numbered b) (one .0), one .1)
+pub levels-settled : (s before x y : List ℕ) (a b : Handed) → LevelsCopied s before x a → LevelsCopied s before y b → (a ≡ b) × (x ≡ y)
+levels-settled s before x y = buffer-settled _ s before x y (λ t. one-copy t before x y)

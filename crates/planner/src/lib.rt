@@ -36,15 +36,10 @@ pub struct WalkAnswer {
     pub pairs: [u8; 64],
 }
 
-// The number asked, the lowest levels being in the answer buffer.
+// What a question answers that hands out levels in the answer buffer: the number asked with the lowest levels, the number of jobs with the
+// levels that the sheet itself names, or the refusal.
 pub enum Handed {
-    Asked(u32),
-    Refused(Refusal),
-}
-
-// The number of jobs, the levels that the sheet itself names being in the answer buffer.
-pub enum Copied {
-    Jobs(u32),
+    Number(u32),
     Refused(Refusal),
 }
 
@@ -124,7 +119,7 @@ pub fn lowest(sheet: &[u8], answer: &mut [u8]) -> Handed
     if let Checked::Refused(r) = checked {
         return Handed::Refused(r);
     }
-    Handed::Asked(tables::find_lowest(
+    Handed::Number(tables::find_lowest(
         jobs,
         read.table.objects,
         &read.table.kind,
@@ -134,20 +129,20 @@ pub fn lowest(sheet: &[u8], answer: &mut [u8]) -> Handed
 }
 
 // Which levels does the sheet itself name?
-pub fn own_levels(sheet: &[u8], answer: &mut [u8]) -> Copied
+pub fn own_levels(sheet: &[u8], answer: &mut [u8]) -> Handed
     ensures { λ a. ⌜ LevelsCopied (now (sheet .entry)) (now (answer .entry)) (now (answer .exit)) a ⌝ }
 {
     let read = sheet::read_sheet(sheet);
     let reading = read.reading;
     if let Reading::Refused(r) = reading {
-        return Copied::Refused(r);
+        return Handed::Refused(r);
     }
     let jobs = read.table.jobs;
     let checked = check_room(jobs, answer.len());
     if let Checked::Refused(r) = checked {
-        return Copied::Refused(r);
+        return Handed::Refused(r);
     }
     tables::copy_levels(jobs, &read.table.level, answer);
     let number = jobs as u32;
-    Copied::Jobs(number)
+    Handed::Number(number)
 }

@@ -29,10 +29,16 @@ use Rattle.planner.specs.declared.Verdict.the-variants as verdict
 use Rattle.planner.specs.declared.Walk.{Walk}
 use Rattle.planner.specs.declared.Walk.the-variants as walk
 use Rattle.planner.specs.declared.WalkAnswer.{WalkAnswer}
+use Rattle.planner.specs.declared.Handed.{Handed}
+use Rattle.planner.specs.declared.Handed.the-variants as handed
 
 -- small enough to stand beside a number in one reply
 abbrev pub Near : ℕ → Type 0
 Near place = place < 65536
+
+-- an answer whose refusal, if it is one, has such a place
+abbrev pub TurnedNear : Handed → Type 0
+TurnedNear a = (r : Refusal) → a ≡ handed.Refused r → Near (r .place)
 
 -- what is asked less of ends as well
 ends-less :
@@ -101,7 +107,7 @@ next-near s ls above a r h e =
     refused-at ReadTable Near R (withLevels s ls) r (with-levels-near s ls) (subst (λ (w : Walk). Answers R (withLevels s ls) (walkOf w)) e (h .outcome))
 
 pub buffer-near :
-    (R : Table → (before after : List ℕ) → ℕ → Type 0) (s before after : List ℕ) (a : Step ℕ) (r : Refusal)
-    → InBuffer R s before after a → a ≡ faultOf r → Near (r .place)
-buffer-near R s before after a r h e =
+    (R : Table → (before after : List ℕ) → ℕ → Type 0) (s before after : List ℕ) (a : Handed)
+    → InBuffer R s before after a → TurnedNear a
+buffer-near R s before after a h r e =
     refused-at ReadTable Near (λ t. R t before after) (withRoom s (length before)) r (with-room-near s (length before)) (rw e at (h .outcome))

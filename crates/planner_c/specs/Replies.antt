@@ -11,14 +11,14 @@ use Rattle.sheet.specs.declared.Reading.{Reading}
 use Rattle.sheet.specs.declared.Reading.the-variants as reading
 use Rattle.sheet.specs.declared.ReadAnswer.{ReadAnswer}
 use Rattle.walk.specs.declared.four.Four.{Four}
-use Rattle.planner.specs.Questions.{Judged, Walked, askedOf, LowestHanded, copiedOf, LevelsCopied}
+use Rattle.planner.specs.Questions.{Judged, Walked, LowestHanded, LevelsCopied}
 use Rattle.planner.specs.declared.Verdict.{Verdict}
 use Rattle.planner.specs.declared.Verdict.the-variants as verdict
 use Rattle.planner.specs.declared.Walk.{Walk}
 use Rattle.planner.specs.declared.Walk.the-variants as walk
 use Rattle.planner.specs.declared.WalkAnswer.{WalkAnswer}
 use Rattle.planner.specs.declared.Handed.{Handed}
-use Rattle.planner.specs.declared.Copied.{Copied}
+use Rattle.planner.specs.declared.Handed.the-variants as handed
 
 abbrev pub codeOf : Refusal → ℕ
 codeOf r = numberOf (r .reason) * 65536 + r .place
@@ -68,22 +68,23 @@ pub record NextReply (s ls : List ℕ) (above : Four) (before after : List ℕ) 
   pub reply : n ≡ walkCode answer
   pub bytes : after ≡ foundIn answer before
 
--- a number or a refusal
-abbrev pub numberCode : Step ℕ → ℕ
-numberCode (ok n) = n
-numberCode (fault number place) = number * 65536 + place
+-- a question that hands out levels in the answer buffer, over its promise
+abbrev pub handedCode : Handed → ℕ
+handedCode (handed.Number n) = n
+handedCode (handed.Refused r) = codeOf r
+
+pub record HandedReply (Promise : (s before after : List ℕ) → Handed → Type 0) (s before after : List ℕ) (n : ℕ) : Type 0 where
+  pub handed : Handed
+  pub promised : Promise s before after handed
+  pub reply : n ≡ handedCode handed
 
 -- `planner_lowest`: the number asked
-pub record LowestReply (s before after : List ℕ) (n : ℕ) : Type 0 where
-  pub handed : Handed
-  pub promised : LowestHanded s before after handed
-  pub reply : n ≡ numberCode (askedOf handed)
+abbrev pub LowestReply : (s before after : List ℕ) → ℕ → Type 0
+LowestReply = HandedReply LowestHanded
 
 -- `planner_levels`: the number of jobs
-pub record LevelsReply (s before after : List ℕ) (n : ℕ) : Type 0 where
-  pub copied : Copied
-  pub promised : LevelsCopied s before after copied
-  pub reply : n ≡ numberCode (copiedOf copied)
+abbrev pub LevelsReply : (s before after : List ℕ) → ℕ → Type 0
+LevelsReply = HandedReply LevelsCopied
 
 -- what a caller learns of the checks from a reply alone: passed, or the fault's number and place
 abbrev pub Told : {A : Type 0} → Step A → ℕ → Type 0

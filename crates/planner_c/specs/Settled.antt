@@ -24,17 +24,16 @@ use Rattle.sheet.specs.declared.Table.{Table}
 use Rattle.verdict.specs.Verdict.{Lowers}
 use Rattle.walk.specs.declared.four.Four.{Four}
 use Rattle.planner.specs.Checks.{withLevels, withRoom}
-use Rattle.planner.specs.Questions.{Answers, verdictOf, walkOf, InBuffer, askedOf, copiedOf, Copies}
+use Rattle.planner.specs.Questions.{Answers, verdictOf, walkOf, handedOf, InBuffer, LowestHanded, Copies, LevelsCopied}
 use Rattle.planner.specs.Settled as questions
-use Rattle.planner.specs.Settled.{Numbered, numbered, refused, asked-numbered, copied-numbered}
 use Rattle.planner.specs.declared.Verdict.{Verdict}
 use Rattle.planner.specs.declared.Verdict.the-variants as verdict
 use Rattle.planner.specs.declared.Walk.{Walk}
 use Rattle.planner.specs.declared.Walk.the-variants as walk
 use Rattle.planner.specs.declared.WalkAnswer.{WalkAnswer}
 use Rattle.planner.specs.declared.Handed.{Handed}
-use Rattle.planner.specs.declared.Copied.{Copied}
-use Rattle.planner_c.specs.Replies.{readCode, ReadReply, judgeCode, JudgeReply, stepCode, walkCode, foundIn, NextReply, numberCode, LowestReply, LevelsReply, Told}
+use Rattle.planner.specs.declared.Handed.the-variants as handed
+use Rattle.planner_c.specs.Replies.{readCode, ReadReply, judgeCode, JudgeReply, stepCode, walkCode, foundIn, NextReply, handedCode, HandedReply, LowestReply, LevelsReply, Told}
 use Rattle.planner_c.specs.ReplyLaws.{number-in, code-told, next-few, lowest-few, levels-few}
 use Rattle.planner_c.specs.PlaceLaws.{Near, with-room-near, accepted-of, read-near, judge-near, next-near, buffer-near}
 
@@ -54,15 +53,19 @@ next-settled s ls above before x y n m p q =
     let one = questions.walk-settled s ls above (p .answer) (q .answer) (p .walked) (q .walked) in
     (p .reply ∙ ap walkCode one ∙ sym (q .reply), p .bytes ∙ ap (λ (a : WalkAnswer). foundIn a before) one ∙ sym (q .bytes))
 
+handed-settled :
+    (P : (s before after : List ℕ) → Handed → Type 0)
+    → ((s before x y : List ℕ) (a b : Handed) → P s before x a → P s before y b → (a ≡ b) × (x ≡ y))
+    → (s before x y : List ℕ) (n m : ℕ) → HandedReply P s before x n → HandedReply P s before y m → (n ≡ m) × (x ≡ y)
+handed-settled P once s before x y n m p q =
+    let one = once s before x y (p .handed) (q .handed) (p .promised) (q .promised) in
+    (p .reply ∙ ap handedCode (one .0) ∙ sym (q .reply), one .1)
+
 pub lowest-settled : (s before x y : List ℕ) (n m : ℕ) → LowestReply s before x n → LowestReply s before y m → (n ≡ m) × (x ≡ y)
-lowest-settled s before x y n m p q =
-    let one = questions.lowest-settled s before x y (p .handed) (q .handed) (p .promised) (q .promised) in
-    (p .reply ∙ ap (λ (a : Handed). numberCode (askedOf a)) (one .0) ∙ sym (q .reply), one .1)
+lowest-settled = handed-settled LowestHanded questions.lowest-settled
 
 pub levels-settled : (s before x y : List ℕ) (n m : ℕ) → LevelsReply s before x n → LevelsReply s before y m → (n ≡ m) × (x ≡ y)
-levels-settled s before x y n m p q =
-    let one = questions.levels-settled s before x y (p .copied) (q .copied) (p .promised) (q .promised) in
-    (p .reply ∙ ap (λ (a : Copied). numberCode (copiedOf a)) (one .0) ∙ sym (q .reply), one .1)
+levels-settled = handed-settled LevelsCopied questions.levels-settled
 
 -- an answer tells of the checks what it says itself
 told : {A B : Type 0} (R : A → B → Type 0) (x : Step A) (y : Step B) (n : ℕ) → Answers R x y → Told y n → Told x n
@@ -114,23 +117,24 @@ end-told s ls above before after p = cases (p .answer .walk) (p .reply) (λ f e.
     cases walk.End e few = refl
     cases (walk.Refused r) e few = absurd (omega (arith, number-in (r .reason)))
 
--- a number or a refusal, with an answer buffer
-module _ {A : Type 0} (number : ℕ → A) (turned : Refusal → A) (of : A → Step ℕ) (R : Table → (before after : List ℕ) → ℕ → Type 0)
-    (few : (t : Table) → ReadTable t → (before after : List ℕ) (n : ℕ) → R t before after n → n < 65536) where
-  number-told : (s before after : List ℕ) (a : A) → Numbered number turned of a → InBuffer R s before after (of a) → Told (withRoom s (length before)) (numberCode (of a))
-  number-told s before after a k h =
-      told (λ t. R t before after) (withRoom s (length before)) (of a) (numberCode (of a)) (h .outcome) (cases k)
-    where
-      cases : Numbered number turned of a → Told (of a) (numberCode (of a))
-      cases (numbered n e f) =
-          let o = accepted-of ReadTable Near (λ t. R t before after) (withRoom s (length before)) n (with-room-near s (length before)) (rw f at (h .outcome)) in
-          rw f (few (o .0) (o .1) before after n (o .2))
-      cases (refused r e f) = rw f (code-told ℕ r (buffer-near R s before after (of a) r h f))
+-- levels handed out, where the number beside them is small
+handed-told :
+    (R : Table → (before after : List ℕ) → ℕ → Type 0)
+    → ((t : Table) → ReadTable t → (before after : List ℕ) (n : ℕ) → R t before after n → n < 65536)
+    → (s before after : List ℕ) (n : ℕ) → HandedReply (InBuffer R) s before after n → Told (withRoom s (length before)) n
+handed-told R few s before after n p =
+    let a = p .handed in
+    rw (p .reply)
+    (told (λ t. R t before after) (withRoom s (length before)) (handedOf a) (handedCode a) (p .promised .outcome) (cases a (p .promised)))
+  where
+    cases : (a : Handed) → InBuffer R s before after a → Told (handedOf a) (handedCode a)
+    cases (handed.Number n) h =
+        let o = accepted-of ReadTable Near (λ t. R t before after) (withRoom s (length before)) n (with-room-near s (length before)) (h .outcome) in
+        few (o .0) (o .1) before after n (o .2)
+    cases (handed.Refused r) h = code-told ℕ r (buffer-near R s before after (handed.Refused r) h r refl)
 
 pub lowest-told : (s before after : List ℕ) (n : ℕ) → LowestReply s before after n → Told (withRoom s (length before)) n
-lowest-told s before after n p =
-    rw (p .reply) (number-told _ _ askedOf (λ t. Lowers form1 (jobsOf t)) lowest-few s before after (p .handed) (asked-numbered (p .handed)) (p .promised))
+lowest-told = handed-told (λ t. Lowers form1 (jobsOf t)) lowest-few
 
 pub levels-told : (s before after : List ℕ) (n : ℕ) → LevelsReply s before after n → Told (withRoom s (length before)) n
-levels-told s before after n p =
-    rw (p .reply) (number-told _ _ copiedOf Copies levels-few s before after (p .copied) (copied-numbered (p .copied)) (p .promised))
+levels-told = handed-told Copies levels-few

@@ -1,7 +1,6 @@
 // The questions for C and Rust, over numbers and byte slices alone (include/asmeluka.h). A refusal is its number times 65536 and its place.
 mod found;
 
-use planner::Copied;
 use planner::Handed;
 use planner::Verdict;
 use planner::Walk;
@@ -9,18 +8,29 @@ use sheet::Reading;
 use sheet::Refusal;
 use walk::four::Four;
 ghost use mathlib.Core.Path.{_≡_};
-ghost use Prim.Native.Nat.{_<_};
-ghost use Rattle.planner_c.specs.Replies.{codeOf, ReadReply, JudgeReply, NextReply, LowestReply, LevelsReply};
+ghost use Rattle.planner_c.specs.Replies.{codeOf, handedCode, ReadReply, JudgeReply, NextReply, LowestReply, LevelsReply};
+ghost use Rattle.planner_c.specs.PlaceLaws.{Near, TurnedNear};
 
 // A refusal as one number.
 fn code(r: Refusal) -> u32
-    requires { ⌜ r .place < 65536 ⌝ }
+    requires { ⌜ Near (r .place) ⌝ }
     ensures { λ n. ⌜ n ≡ codeOf r ⌝ }
 {
     let reason = r.reason;
     let number = sheet::number(reason);
     let place = r.place as u32;
     number * 65536 + place
+}
+
+// The number that comes with the levels in `answer`, or the refusal.
+fn handed_code(handed: Handed) -> u32
+    requires { ⌜ TurnedNear handed ⌝ }
+    ensures { λ n. ⌜ n ≡ handedCode handed ⌝ }
+{
+    match handed {
+        Handed::Number(n) => n,
+        Handed::Refused(r) => code(r),
+    }
 }
 
 // Is the sheet read? 0, or the refusal.
@@ -82,11 +92,7 @@ pub extern "C" fn planner_next(
 pub extern "C" fn planner_lowest(sheet: &[u8], answer: &mut [u8]) -> u32
     ensures { λ n. ⌜ LowestReply (now (sheet .entry)) (now (answer .entry)) (now (answer .exit)) n ⌝ }
 {
-    let handed = planner::lowest(sheet, answer);
-    match handed {
-        Handed::Asked(n) => n,
-        Handed::Refused(r) => code(r),
-    }
+    handed_code(planner::lowest(sheet, answer))
 }
 
 // Which levels does the sheet itself name? The number of jobs, the levels being in the first bytes of `answer`; or the refusal.
@@ -94,9 +100,5 @@ pub extern "C" fn planner_lowest(sheet: &[u8], answer: &mut [u8]) -> u32
 pub extern "C" fn planner_levels(sheet: &[u8], answer: &mut [u8]) -> u32
     ensures { λ n. ⌜ LevelsReply (now (sheet .entry)) (now (answer .entry)) (now (answer .exit)) n ⌝ }
 {
-    let copied = planner::own_levels(sheet, answer);
-    match copied {
-        Copied::Jobs(n) => n,
-        Copied::Refused(r) => code(r),
-    }
+    handed_code(planner::own_levels(sheet, answer))
 }
