@@ -7,7 +7,7 @@ use crate::questions::{pairs_text, read_levels};
 use crate::reader::read;
 use crate::refusal::{refuse_if, Reason, Refusal};
 use crate::search::Search;
-use crate::sheet::{Level, Sheet};
+use crate::sheet::Sheet;
 use crate::split::{Four, Split};
 use crate::survey::{danger_text, lowest_text, names_text};
 
@@ -45,7 +45,7 @@ fn lowest_line(sheet: &Sheet, dangers: &Dangers, room: usize) -> Result<String, 
 
 fn levels_line(sheet: &Sheet, room: usize) -> Result<String, Refusal> {
     refuse_if(room < sheet.jobs.len(), Reason::BufferShort, 0)?;
-    let levels: Vec<Level> = sheet.jobs.iter().map(|job| job.level).collect();
+    let levels = sheet.levels();
     Ok(format!("levels{} jobs {}\n", names_text(&levels), levels.len()))
 }
 
