@@ -1,4 +1,6 @@
 // The lines that tell the answers, without their line feeds (docs/REPLIES.md, "The lines").
+#![tactic(auto)]
+
 pub mod buffers;
 pub mod judging;
 pub mod reading;

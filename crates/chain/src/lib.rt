@@ -1,4 +1,6 @@
 // Reach and the chain shown, over sets of jobs (document 01, "The walk and the chain shown").
+#![tactic(auto)]
+
 ghost use Rattle.std.specs.Prelude.{◌≡◌, ◌<◌, length};
 ghost use Rattle.chain.specs.Paths.{Joined, Both, Shows};
 ghost use Rattle.chain.specs.Layers.{Around, Apart, Counted, Ready, Built};

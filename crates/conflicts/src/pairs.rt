@@ -51,7 +51,7 @@ pub fn partner(
     16
 }
 
-#[derive(Drop)]
+#[derive(Clone, Copy)]
 pub struct Pair {
     pub earlier: usize,
     pub later: usize,

@@ -8,7 +8,7 @@ use sheet::{Reason, Refusal};
 const TOP: u8 = 2;
 
 // A check that is passed, or the refusal.
-#[derive(Drop)]
+#[derive(Clone, Copy)]
 pub enum Checked {
     Passed,
     Refused(Refusal),

@@ -1,4 +1,6 @@
 // The questions that outsiders ask (document 01, "What the planner takes and gives"). None has a `requires`: it refuses.
+#![tactic(auto)]
+
 pub mod levels;
 pub mod rows;
 pub mod steps;
@@ -12,7 +14,7 @@ use sheet::{Reading, Refusal};
 use walk::four::Four;
 
 // Whether a sheet is robust against a list of levels.
-#[derive(Drop)]
+#[derive(Clone, Copy)]
 pub enum Verdict {
     Robust,
     Dangerous,
@@ -20,7 +22,7 @@ pub enum Verdict {
 }
 
 // A step of the walk.
-#[derive(Drop)]
+#[derive(Clone, Copy)]
 pub enum Walk {
     Found(Four),
     End,
@@ -29,7 +31,7 @@ pub enum Walk {
 
 // The chain shown with a danger stands beside the enum, since an enum holds no array: the number of its jobs, the jobs T2 .. Tm, and
 // the pairs, the earlier job's operation first; zeros behind them, and nothing but zeros where no danger is found.
-#[derive(Drop)]
+#[derive(Clone, Copy)]
 pub struct WalkAnswer {
     pub walk: Walk,
     pub length: usize,
@@ -39,7 +41,7 @@ pub struct WalkAnswer {
 
 // What a question answers that hands out levels in the answer buffer: the number asked with the lowest levels, the number of jobs with the
 // levels that the sheet itself names, or the refusal.
-#[derive(Drop)]
+#[derive(Clone, Copy)]
 pub enum Handed {
     Number(u32),
     Refused(Refusal),

@@ -1,4 +1,6 @@
 // The questions for C and Rust, over numbers and byte slices alone (include/asmeluka.h). A refusal is its number times 65536 and its place.
+#![tactic(auto)]
+
 mod found;
 
 ghost use Rattle.std.specs.Prelude.{◌≡◌};

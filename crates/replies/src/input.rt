@@ -3,13 +3,13 @@ ghost use Rattle.std.specs.Prelude.{◌≤◌, ◌≡◌, length};
 
 use answer_lines::wide;
 
-#[derive(Drop)]
+#[derive(Clone, Copy)]
 pub enum Got {
     Byte(u8),
     End,
 }
 
-#[derive(Drop)]
+#[derive(Clone, Copy)]
 pub enum Number {
     Is(usize),
     End,

@@ -1,4 +1,6 @@
 // Answers a stream of questions from standard input, one line each, for comparison with the second program (docs/REPLIES.md).
+#![tactic(auto)]
+
 mod input;
 mod question;
 
@@ -9,7 +11,7 @@ use question::Turn;
 use text::{put, put_number, put_word};
 
 // How the stream ended, with the number of the question at fault.
-#[derive(Drop)]
+#[derive(Clone, Copy)]
 enum Ending {
     Whole,
     Cut(usize),

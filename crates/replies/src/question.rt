@@ -6,7 +6,7 @@ use answer_lines::{buffers, judging, reading, walking};
 use text::put;
 
 // How a question ended: with its line, or by a stream that stops short or says what no stream may say.
-#[derive(Drop)]
+#[derive(Clone, Copy)]
 pub enum Turn {
     Answered,
     Cut,

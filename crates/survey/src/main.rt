@@ -1,4 +1,6 @@
 // Prints what document 01, "The program `survey`", asks of the sheet on standard input.
+#![tactic(auto)]
+
 mod lines;
 
 ghost use Rattle.std.specs.Prelude.{◌≤◌, length};

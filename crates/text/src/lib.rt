@@ -1,5 +1,7 @@
 // How the programs make their lines: bytes, words and numbers go to the end of what a buffer holds already, its first `used` bytes. What has
 // no room is left out, so a program writes the buffer away in time.
+#![tactic(auto)]
+
 pub mod lines;
 
 ghost use Rattle.std.specs.Prelude.{◌≡◌, [], ◌∷◌, ◌<◌, ◌/◌, ltb, length, take};

@@ -7,7 +7,7 @@ ghost use Rattle.walk.specs.Starts.{Starts};
 use crate::four::Four;
 
 // Four numbers counted from 0.
-#[derive(Drop)]
+#[derive(Clone, Copy)]
 pub struct Start {
     pub t: usize,
     pub b: usize,
