@@ -11,7 +11,7 @@ use lib.Seq.{sets-eq}
 use Rattle.jobset.specs.Jobset.{bit, Lowest}
 use Rattle.jobset.specs.JobsetLaws.{bit_lt, member_pos}
 use Rattle.theory.specs.Reach.{Best as Row}
-use Rattle.theory.specs.ReachLaws.{through_links, path_links}
+use Rattle.theory.proofs.ReachLaws.{through_links, path_links}
 use Rattle.chain.specs.Paths.{Edge, Open, Shows}
 use Rattle.chain.specs.PathLaws.{path_row}
 use Rattle.chain.specs.BestLaws.{lowest_best}

@@ -12,7 +12,7 @@ use lib.Seq.{get_or-set_same, get_or-set_other}
 use Rattle.jobset.specs.Jobset.{bit, one, size}
 use Rattle.jobset.specs.JobsetLaws.{bit_lt, bit_none, digit, member_below, some_member, single_is, single_has}
 use Rattle.jobset.specs.SizeLaws.{size_le, size_some, size_apart, size_missing}
-use Rattle.theory.specs.ReachLaws.{through_links}
+use Rattle.theory.proofs.ReachLaws.{through_links}
 use Rattle.chain.specs.Paths.{Edge, Open, Both}
 use Rattle.chain.specs.PathLaws.{edge_row}
 use Rattle.chain.specs.Layers.{Around, Way, Leads, Far, Layer, Counted}

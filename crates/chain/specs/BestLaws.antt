@@ -7,8 +7,8 @@ use Rattle.jobset.specs.JobsetLaws.{member_lt}
 use Rattle.theory.specs.Danger.{distinct?}
 use Rattle.theory.specs.Shown.{Sooner}
 use Rattle.theory.specs.Reach.{Best as Lowest, Path as Row}
-use Rattle.theory.specs.ReachLaws.{through_links, path_links, best_path, best_low, shortest_distinct}
-use Rattle.theory.specs.ShownLaws.{before_not}
+use Rattle.theory.proofs.ReachLaws.{through_links, path_links, best_path, best_low, shortest_distinct}
+use Rattle.theory.proofs.ShownLaws.{before_not}
 use Rattle.chain.specs.Paths.{Edge, Open, Path, Best}
 use Rattle.chain.specs.PathLaws.{path_row, row_path}
 use Rattle.chain.specs.Layers.{Way, Leads}

@@ -7,7 +7,7 @@ use Rattle.std.proofs.Math.ListN.{get_or-eq_default}
 use Rattle.jobset.specs.Jobset.{bit}
 use Rattle.jobset.specs.JobsetLaws.{bit_none, member_below}
 use Rattle.theory.specs.Reach.{Path as Row}
-use Rattle.theory.specs.ReachLaws.{path_links, links_path, links_back}
+use Rattle.theory.proofs.ReachLaws.{path_links, links_path, links_back}
 use Rattle.chain.specs.Paths.{Edge, Open, Path}
 
 -- a job that has no row conflicts with none

@@ -10,7 +10,7 @@ use native.Mathlib.Omega.{arith}
 use lib.Dec.{T, eqb, ltb, eqb→eq, eqb_refl, ltb→lt, lt→ltb}
 use Rattle.jobset.specs.Jobset.{bit, one}
 use Rattle.jobset.specs.JobsetLaws.{one_or, bit_lt, bit_none}
-use Rattle.theory.specs.FindLaws.{and_left, and_right, and_both, or_left, or_right, or_cases}
+use Rattle.theory.proofs.FindLaws.{and_left, and_right, and_both, or_left, or_right, or_cases}
 use Rattle.conflicts.specs.Sets.{Has}
 use Rattle.conflicts.specs.Found.{among, in?}
 

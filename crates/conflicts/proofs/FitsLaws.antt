@@ -12,7 +12,7 @@ use lib.Dec.{T, eqb, leb, leb→le, le→leb}
 use lib.ListN.{get_or}
 use borrow.Author.Tests.{eq-eqb, ne_eqb}
 use Rattle.theory.specs.Find.{some?, meet?}
-use Rattle.theory.specs.FindLaws.{and_left, and_right, and_both, or_left, or_right, or_cases}
+use Rattle.theory.proofs.FindLaws.{and_left, and_right, and_both, or_left, or_right, or_cases}
 use Rattle.theory.specs.Danger.{Jobs, clash, job, alone}
 use Rattle.theory.specs.Form1.{form1}
 use Rattle.theory.specs.Shown.{PairAt}

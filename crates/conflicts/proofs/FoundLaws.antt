@@ -12,11 +12,11 @@ use borrow.Author.Tests.{eqb-true, ne_eqb}
 use Rattle.jobset.specs.Jobset.{bit, one}
 use Rattle.jobset.specs.JobsetLaws.{bit_none}
 use Rattle.theory.specs.Find.{some?}
-use Rattle.theory.specs.FindLaws.{and_left, and_right, and_both, some_in, some_out}
-use Rattle.theory.specs.KnownLaws.{job_known}
+use Rattle.theory.proofs.FindLaws.{and_left, and_right, and_both, some_in, some_out}
+use Rattle.theory.proofs.KnownLaws.{job_known}
 use Rattle.theory.specs.Danger.{Jobs, wr, clash, job}
 use Rattle.theory.specs.Form1.{form1, kinds?}
-use Rattle.theory.specs.Form1Laws.{kinds_out, kinds_in}
+use Rattle.theory.proofs.Form1Laws.{kinds_out, kinds_in}
 use Rattle.conflicts.specs.Sets.{Has, over, op_with, job_with}
 use Rattle.conflicts.specs.SetsFound.{writes_in?, SetsFound}
 use Rattle.conflicts.specs.Laid.{op_at, Laid, Below, Stands}

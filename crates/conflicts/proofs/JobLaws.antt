@@ -13,7 +13,7 @@ use borrow.Author.Tests.{lt-ltb}
 use Rattle.jobset.specs.Jobset.{bit, one}
 use Rattle.jobset.specs.JobsetLaws.{one_or, bit_none}
 use Rattle.theory.specs.Find.{meet?}
-use Rattle.theory.specs.FindLaws.{meet_swap}
+use Rattle.theory.proofs.FindLaws.{meet_swap}
 use Rattle.theory.specs.Danger.{Rule, Jobs, wr, clash, job}
 use Rattle.conflicts.specs.Sets.{Has, job_with}
 use Rattle.conflicts.specs.Found.{Filled, Turned, Any}

@@ -8,8 +8,8 @@ use native.Mathlib.Omega.{arith}
 use lib.Dec.{T, eqb, eqb→eq, eqb_refl}
 use lib.ListN.{length, get_or, take, drop}
 use Rattle.theory.specs.Find.{some?, meet?}
-use Rattle.theory.specs.FindLaws.{some_alone, some_take, some_drop}
-use Rattle.theory.specs.KnownLaws.{op_known}
+use Rattle.theory.proofs.FindLaws.{some_alone, some_take, some_drop}
+use Rattle.theory.proofs.KnownLaws.{op_known}
 use Rattle.conflicts.specs.Found.{among}
 use Rattle.conflicts.proofs.Among.{same_test, among_in, among_out}
 

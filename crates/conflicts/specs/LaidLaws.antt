@@ -10,7 +10,7 @@ use Rattle.sheet.specs.JobsLaws.{jobs_length, job_none, job_length, operation_is
 use Rattle.sheet.specs.ReadTable.{ReadTable}
 use Rattle.theory.specs.Danger.{job}
 use Rattle.theory.specs.Form1.{form1}
-use Rattle.theory.specs.Form1Laws.{Writes, writes_known, WritesOnce}
+use Rattle.theory.proofs.Form1Laws.{Writes, writes_known, WritesOnce}
 use Rattle.conflicts.specs.Laid.{op_at, Laid, Below}
 
 pub count_read : (t : Table) → length (jobs_of t) ≡ t.jobs

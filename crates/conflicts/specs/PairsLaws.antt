@@ -4,9 +4,9 @@ use Rattle.std.specs.Prelude.{ℕ, suc, ◌≤◌, ◌<◌, ◌≡◌, refl, ◌
 use Rattle.std.proofs.Common.{sym, inl, inr, arith}
 use Rattle.std.proofs.Math.Decide.{dec_lt}
 use Rattle.theory.specs.Find.{some?, meet?}
-use Rattle.theory.specs.FindLaws.{or_right, some_map, meet_swap}
-use Rattle.theory.specs.KnownLaws.{op_known}
-use Rattle.theory.specs.PlaceLaws.{part_whole, part_alone, met}
+use Rattle.theory.proofs.FindLaws.{or_right, some_map, meet_swap}
+use Rattle.theory.proofs.KnownLaws.{op_known}
+use Rattle.theory.proofs.PlaceLaws.{part_whole, part_alone, met}
 use Rattle.theory.specs.Danger.{Rule, Jobs, wr, clash, job, alone, conflict?}
 use Rattle.theory.specs.Shown.{LowestPair, PairAt, Leaves, Returns}
 use Rattle.conflicts.specs.Pairs.{Fits, Partner, Paired}

@@ -8,7 +8,7 @@ use lib.ListN.{length, get_or, replicate}
 use Rattle.theory.specs.Danger.{Jobs}
 use Rattle.theory.specs.Form1.{form1}
 use Rattle.theory.specs.Guards.{Paper}
-use Rattle.theory.specs.KnownLaws.{t1_known}
+use Rattle.theory.proofs.KnownLaws.{t1_known}
 use Rattle.theory.specs.Lowest.{level}
 use Rattle.theory.specs.Planner.{Danger₁, Walks₁}
 use Rattle.theory.specs.Walk as theory

@@ -5,7 +5,8 @@ use Rattle.std.proofs.Common.{sym, ap, ap₂, ◌∙◌, arith}
 use Rattle.std.proofs.Math.Nat.{suc_inj}
 use Rattle.theory.specs.Danger.{Jobs}
 use Rattle.theory.specs.Form1.{form1}
-use Rattle.theory.specs.Planner.{Robust₁, Shown₁, one_answer₁, one_shown₁}
+use Rattle.theory.specs.Planner.{Robust₁, Shown₁}
+use Rattle.theory.proofs.PlannerLaws.{one_answer₁, one_shown₁}
 use Rattle.theory.specs.Walk as theory
 use Rattle.sheet.specs.Step.{Step, ok, fault}
 use Rattle.sheet.specs.AnswerLaws.{fault_tells}

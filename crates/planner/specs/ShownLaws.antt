@@ -4,7 +4,7 @@ use Rattle.std.specs.Prelude.{ℕ, suc, ◌-◌, ◌≡◌, List, [], ◌∷◌,
 use Rattle.std.proofs.Common.{sym, ap, subst, ◌∙◌, arith}
 use Rattle.theory.specs.Danger.{Jobs, job}
 use Rattle.theory.specs.Form1.{form1}
-use Rattle.theory.specs.Form1Laws.{OnlyWrite, only_write}
+use Rattle.theory.proofs.Form1Laws.{OnlyWrite, only_write}
 use Rattle.theory.specs.Lowest.{level}
 use Rattle.theory.specs.Shown.{Leaves, Pairs}
 use Rattle.theory.specs.Walk as theory

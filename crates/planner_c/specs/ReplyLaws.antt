@@ -4,10 +4,10 @@ use Rattle.std.specs.Prelude.{ℕ, ◌≤◌, ◌<◌, ◌≡◌, not, List, ◌
 use Rattle.std.proofs.Common.{subst, arith, lit≤}
 use Rattle.theory.specs.Danger.{Jobs, distinct?}
 use Rattle.theory.specs.Find.{some?}
-use Rattle.theory.specs.FindLaws.{and_right}
-use Rattle.theory.specs.DistinctLaws.{pigeons}
+use Rattle.theory.proofs.FindLaws.{and_right}
+use Rattle.theory.proofs.DistinctLaws.{pigeons}
 use Rattle.theory.specs.Form1.{form1}
-use Rattle.theory.specs.Planner.{asked_within₁}
+use Rattle.theory.proofs.PlannerLaws.{asked_within₁}
 use Rattle.theory.specs.Walk as theory
 use Rattle.sheet.specs.Answer.{number_of, fault_of}
 use Rattle.sheet.specs.declared.Reason.{Reason}

@@ -10,7 +10,7 @@ use lib.Dec.{T, leb, eqb, le→leb, eqb_refl}
 use lib.ListN.{take, drop}
 use borrow.Author.Tests.{lt-leb}
 use Rattle.theory.specs.Find.{some?, meet?}
-use Rattle.theory.specs.FindLaws.{passes, and_left, and_right, and_both, or_left, or_right, or_cases, differ}
+use Rattle.theory.proofs.FindLaws.{passes, and_left, and_right, and_both, or_left, or_right, or_cases, differ}
 use Rattle.theory.specs.Danger.{Rule, Jobs, clash, job, prefix, postfix}
 use Rattle.jobset.specs.Jobset.{bit, one}
 use Rattle.jobset.specs.JobsetLaws.{bit_lt, one_lt, one_and, one_or, one_holds}

@@ -8,7 +8,7 @@ use native.Mathlib.Omega.{arith}
 use lib.Dec.{T, ltb, ltb→lt, lt→ltb}
 use lib.ListN.{length, set, drop, length-drop}
 use Rattle.theory.specs.Find.{some?, meet?}
-use Rattle.theory.specs.FindLaws.{and_left, and_right, and_both, or_left, or_right, or_cases, some_take, some_drop, meet_second, meet_swap}
+use Rattle.theory.proofs.FindLaws.{and_left, and_right, and_both, or_left, or_right, or_cases, some_take, some_drop, meet_second, meet_swap}
 use Rattle.theory.specs.Danger.{Rule, Jobs, wr, clash, job, alone}
 use Rattle.jobset.specs.Jobset.{bit, one}
 use Rattle.jobset.specs.JobsetLaws.{one_or}

@@ -2,9 +2,9 @@
 use Rattle.std.specs.Prelude.{◌≡◌, ◌↔◌, ◌⊎◌, Bool, ◌&&◌, not, List, ℕ, ◌≤◌, ◌<◌, T, drop}
 use Rattle.std.proofs.Common.{inl, inr, arith}
 use Rattle.theory.specs.Find.{some?}
-use Rattle.theory.specs.FindLaws.{some_alone, some_take, some_drop, meet_swap}
+use Rattle.theory.proofs.FindLaws.{some_alone, some_take, some_drop, meet_swap}
 use Rattle.theory.specs.Danger.{Rule, Jobs, SSI, wr, clash, job, postfix, Some, None, Chain, Danger}
-use Rattle.theory.specs.DangerLaws.{none_whole, none_prefix, none_postfix}
+use Rattle.theory.proofs.DangerLaws.{none_whole, none_prefix, none_postfix}
 use Rattle.theory.specs.Guards.{Paper}
 use Rattle.conflicts.specs.Sets.{job_with}
 use Rattle.splits.specs.Splits.{watch?, Parts, first?, last?, first_any?, last_any?}

@@ -2,14 +2,14 @@
 use Rattle.std.specs.Prelude.{◌≡◌, ◌↔◌, ◌⊎◌, Bool, not, List, [], ◌∷◌, ℕ, ◌^◌, ◌≤◌, ◌<◌, T, eqb, length, get_or}
 use Rattle.std.proofs.Common.{sym, ap, subst, inl, inr, arith}
 use Rattle.theory.specs.Find.{some?}
-use Rattle.theory.specs.FindLaws.{and_left, and_right, nor_left, nor_right, nor_both, unequal, differ, meet_first, meet_second}
+use Rattle.theory.proofs.FindLaws.{and_left, and_right, nor_left, nor_right, nor_both, unequal, differ, meet_first, meet_second}
 use Rattle.theory.specs.Danger.{Rule, Jobs, clash, job, alone, postfix, Some, conflict?, free?, distinct?, Chain, Danger}
-use Rattle.theory.specs.DangerLaws.{conflict_sym}
+use Rattle.theory.proofs.DangerLaws.{conflict_sym}
 use Rattle.theory.specs.Guards.{Paper}
-use Rattle.theory.specs.KnownLaws.{job_known}
+use Rattle.theory.proofs.KnownLaws.{job_known}
 use Rattle.theory.specs.Shown.{Sooner, ShownJobs}
 use Rattle.theory.specs.Reach.{Path as Row}
-use Rattle.theory.specs.ReachLaws.{Edge as Link, Free, cut, shortest_distinct, path_links, links_path, links_back, path_chain, chain_path}
+use Rattle.theory.proofs.ReachLaws.{Edge as Link, Free, cut, shortest_distinct, path_links, links_path, links_back, path_chain, chain_path}
 use Rattle.jobset.specs.Jobset.{bit}
 use Rattle.jobset.specs.JobsetLaws.{member_below}
 use Rattle.chain.specs.Paths.{Edge, Open, Path, Best, Joined, Both}

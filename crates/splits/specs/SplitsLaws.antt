@@ -3,8 +3,8 @@ use Rattle.std.specs.Prelude.{◌≡◌, ◌↔◌, ◌⊎◌, Bool, ◌&&◌, �
 use Rattle.std.proofs.Common.{inl, inr, T_not, leb→le, le→leb, ltb→lt, lt→ltb}
 use Rattle.std.proofs.Math.Dec.{not_T}
 use Rattle.theory.specs.Find.{meet?}
-use Rattle.theory.specs.FindLaws.{and_left, and_right, and_both, or_left, or_right, or_cases, nor_left, nor_right, nor_both, unequal, differ}
-use Rattle.theory.specs.KnownLaws.{t2_apart, tm_apart}
+use Rattle.theory.proofs.FindLaws.{and_left, and_right, and_both, or_left, or_right, or_cases, nor_left, nor_right, nor_both, unequal, differ}
+use Rattle.theory.proofs.KnownLaws.{t2_apart, tm_apart}
 use Rattle.theory.specs.Danger.{Rule, Jobs, SSI, wr, clash, job, alone, prefix, postfix, Some, None, Chain, Danger}
 use Rattle.theory.specs.Guards.{Paper}
 use Rattle.conflicts.specs.Sets.{job_with}

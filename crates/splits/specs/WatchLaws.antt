@@ -5,7 +5,7 @@ use Rattle.std.proofs.Math.Path.{ap}
 use Rattle.std.proofs.Math.Decide.{dec_lt}
 use Rattle.std.proofs.Math.Dec.{leb}
 use Rattle.std.proofs.lemmas.Bool.{lt-leb}
-use Rattle.theory.specs.FindLaws.{passes}
+use Rattle.theory.proofs.FindLaws.{passes}
 use Rattle.jobset.specs.Jobset.{bit, one}
 use Rattle.jobset.specs.JobsetLaws.{bit_none, bit_lt, one_and}
 use Rattle.conflicts.specs.Sets.{Has}

@@ -13,7 +13,7 @@ use Rattle.jobset.specs.Jobset.{bit, one}
 use Rattle.jobset.specs.JobsetLaws.{bit_lt, bit_none, digit, single_is, single_has, one_lt, member_pos}
 use Rattle.theory.specs.Danger.{Rule, Jobs}
 use Rattle.theory.specs.Guards.{Paper}
-use Rattle.theory.specs.KnownLaws.{t1_known}
+use Rattle.theory.proofs.KnownLaws.{t1_known}
 use Rattle.chain.specs.Paths.{Joined}
 use Rattle.verdict.specs.Verdict.{IsSplit}
 use Rattle.verdict.specs.Needed.{only, Hit, both, ahead, behind, NeededBy, Needed}

@@ -11,9 +11,9 @@ use borrow.Author.Tests.{lt-ltb, le-ltb}
 use Rattle.jobset.specs.Jobset.{bit, one}
 use Rattle.theory.specs.Danger.{Rule, Jobs, Robust}
 use Rattle.theory.specs.Guards.{Paper}
-use Rattle.theory.specs.GuardLaws.{paper_lawful}
-use Rattle.theory.specs.KnownLaws.{t1_known}
-use Rattle.theory.specs.DangerLaws.{robust_higher}
+use Rattle.theory.proofs.GuardLaws.{paper_lawful}
+use Rattle.theory.proofs.KnownLaws.{t1_known}
+use Rattle.theory.proofs.DangerLaws.{robust_higher}
 use Rattle.theory.specs.Lowest.{level}
 use Rattle.conflicts.specs.Sets.{Has}
 use Rattle.splits.specs.Splits.{ssi?, watch?}

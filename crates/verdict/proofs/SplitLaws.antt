@@ -11,7 +11,7 @@ use Rattle.jobset.specs.Jobset.{bit, one}
 use Rattle.jobset.specs.JobsetLaws.{bit_lt, digit}
 use Rattle.theory.specs.Danger.{Rule, Jobs}
 use Rattle.theory.specs.Guards.{Paper}
-use Rattle.theory.specs.KnownLaws.{b1_known}
+use Rattle.theory.proofs.KnownLaws.{b1_known}
 use Rattle.conflicts.specs.Sets.{Has, Sets}
 use Rattle.splits.specs.Splits.{watch?, shut?, Meets, first?, last?, first_any?, last_any?, Splits}
 use Rattle.splits.specs.SplitsLaws.{watch_means}

@@ -5,11 +5,11 @@ use Rattle.std.proofs.Math.Decide.{ℕ_discrete, dec_lt, dec_le}
 use Rattle.std.proofs.lemmas.List.{length-replicate}
 use Rattle.theory.specs.Danger.{Rule, Jobs, SSI, Danger, Robust}
 use Rattle.theory.specs.Guards.{Paper}
-use Rattle.theory.specs.GuardLaws.{paper_lawful}
-use Rattle.theory.specs.DangerLaws.{relevel, robust_higher, all_ssi}
+use Rattle.theory.proofs.GuardLaws.{paper_lawful}
+use Rattle.theory.proofs.DangerLaws.{relevel, robust_higher, all_ssi}
 use Rattle.theory.specs.Lowest.{level, Lowest, Asked, above}
-use Rattle.theory.specs.LowestLaws.{tops, level_set, level_tops, level_beyond}
-use Rattle.theory.specs.RobustLaws.{all_ssi_robust, found_alone, number_asked}
+use Rattle.theory.proofs.LowestLaws.{tops, level_set, level_tops, level_beyond}
+use Rattle.theory.proofs.RobustLaws.{all_ssi_robust, found_alone, number_asked}
 use Rattle.verdict.specs.Verdict.{IsSplit, RobustFor}
 use Rattle.verdict.specs.Needed.{only, LowestOf}
 use Rattle.verdict.specs.OnlyLaws.{only_at, only_other}

@@ -4,7 +4,7 @@ use Rattle.std.proofs.Common.{sym, subst, inl, inr, arith, T_not}
 use Rattle.std.proofs.Math.Decide.{ℕ_discrete}
 use Rattle.std.proofs.Math.Dec.{not_T}
 use Rattle.theory.specs.Find.{meet?}
-use Rattle.theory.specs.FindLaws.{passes, and_left, and_right, and_both}
+use Rattle.theory.proofs.FindLaws.{passes, and_left, and_right, and_both}
 use Rattle.theory.specs.Danger.{Rule, Jobs, wr, job, Danger}
 use Rattle.theory.specs.Guards.{Paper}
 use Rattle.jobset.specs.Jobset.{bit}

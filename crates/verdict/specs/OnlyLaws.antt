@@ -1,7 +1,7 @@
 -- The levels of all jobs where only one is not at SSI.
 use Rattle.std.specs.Prelude.{◌≡◌, refl, Bool, true, false, not, cond, ℕ, T, eqb}
 use Rattle.std.proofs.Math.Dec.{eqb_refl}
-use Rattle.theory.specs.FindLaws.{unequal}
+use Rattle.theory.proofs.FindLaws.{unequal}
 use Rattle.verdict.specs.Needed.{only}
 
 -- the one job is at its level, every other at SSI

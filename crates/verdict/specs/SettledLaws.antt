@@ -3,8 +3,8 @@ use Rattle.std.specs.Prelude.{◌≡◌, refl, Bool, true, false, List, ◌++◌
 use Rattle.std.proofs.Common.{sym, ap₂, ◌∙◌, take-append-drop}
 use Rattle.theory.specs.Danger.{Rule, Jobs}
 use Rattle.theory.specs.Guards.{Paper}
-use Rattle.theory.specs.GuardLaws.{paper_lawful}
-use Rattle.theory.specs.RobustLaws.{lowest_once, one_asked}
+use Rattle.theory.proofs.GuardLaws.{paper_lawful}
+use Rattle.theory.proofs.RobustLaws.{lowest_once, one_asked}
 use Rattle.verdict.specs.Verdict.{Tells, Lowers}
 
 pub one_verdict : {P : Type 0} (a b : Bool) → Tells P a → Tells P b → a ≡ b

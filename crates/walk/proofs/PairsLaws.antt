@@ -8,14 +8,14 @@ use lib.Dec.{T, ltb, ltb→lt, lt→ltb}
 use lib.ListN.{length, get_or, drop, set, length-append}
 use lib.Seq.{drop-cons, drop-drop, get_or-drop, set_at, append_snoc, drop-set-lt}
 use Rattle.theory.specs.Find.{every?}
-use Rattle.theory.specs.FindLaws.{and_left, and_right, and_both}
+use Rattle.theory.proofs.FindLaws.{and_left, and_right, and_both}
 use Rattle.theory.specs.Danger.{clash}
 use Rattle.theory.specs.Guards.{Paper}
-use Rattle.theory.specs.KnownLaws.{b1_known, t1_known, t2_known}
+use Rattle.theory.proofs.KnownLaws.{b1_known, t1_known, t2_known}
 use Rattle.theory.specs.Form1.{form1}
 use Rattle.theory.specs.Shown.{LowestPair, PairAt, Returns, Onward, Pairs}
-use Rattle.theory.specs.PairLaws.{one_pair, pairs_count}
-use Rattle.theory.specs.DistinctLaws.{pigeons}
+use Rattle.theory.proofs.PairLaws.{one_pair, pairs_count}
+use Rattle.theory.proofs.DistinctLaws.{pigeons}
 use Rattle.conflicts.specs.Pairs.{Fits, Partner, Paired}
 use Rattle.conflicts.specs.PairsLaws.{paired, any_conflict, returning, leaving}
 use Rattle.walk.specs.ShownIn.{ToPair, pair_row}

@@ -6,9 +6,9 @@ use native.Mathlib.Omega.{arith}
 use lib.ListN.{length, drop}
 use Rattle.theory.specs.Guards.{Paper}
 use Rattle.theory.specs.Form1.{form1}
-use Rattle.theory.specs.KnownLaws.{t1_known, t2_known, tm_known, t2_apart, tm_apart}
-use Rattle.theory.specs.ShownLaws.{one_chain}
-use Rattle.theory.specs.PairLaws.{shown}
+use Rattle.theory.proofs.KnownLaws.{t1_known, t2_known, tm_known, t2_apart, tm_apart}
+use Rattle.theory.proofs.ShownLaws.{one_chain}
+use Rattle.theory.proofs.PairLaws.{shown}
 use Rattle.chain.specs.Paths.{Both, Written, Shows}
 use Rattle.conflicts.specs.Sets.{Has}
 use Rattle.splits.specs.Splits.{shut?, ShutBy}

@@ -10,8 +10,8 @@ use lib.ListN.{length, get_or}
 use Rattle.jobset.specs.Jobset.{bit, one}
 use Rattle.jobset.specs.JobsetLaws.{one_and}
 use Rattle.theory.specs.Danger.{Jobs, Danger}
-use Rattle.theory.specs.DangerLaws.{paper_same}
-use Rattle.theory.specs.KnownLaws.{b1_known, t1_known, t2_known, tm_known}
+use Rattle.theory.proofs.DangerLaws.{paper_same}
+use Rattle.theory.proofs.KnownLaws.{b1_known, t1_known, t2_known, tm_known}
 use Rattle.theory.specs.Guards.{Paper}
 use Rattle.theory.specs.Form1.{form1}
 use Rattle.theory.specs.Lowest.{level}
