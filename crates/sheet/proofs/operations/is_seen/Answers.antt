@@ -1,0 +1,30 @@
+use Prim.Native.Nat.{◌+◌, ◌-◌}
+use native.Mathlib.Omega.{arith}
+use mathlib.Core.Path.{◌≡◌, sym, ◌∙◌}
+use mathlib.Core.Logic.{⊎_elim}
+use Rattle.sheet.specs.Sheet.{seen}
+use Rattle.sheet.specs.SheetLaws.{seen_here, seen_later}
+use Rattle.sheet.proofs.operations.is_seen.Goals as goal
+
+pub loop-o-init : goal.loop-o-init
+loop-o-init c =
+    let a = c.args in
+    let e : a.base + 0 ≡ a.base = omega arith in
+    let f : a.n - 0 ≡ a.n = omega arith in
+    (omega arith, rw (e, f))
+
+pub returns-then-object-base : goal.returns-then-object-base
+returns-then-object-base c =
+    let a = c.args in
+    sym (seen_here _ _ a.base a.n c.loop-o.o a.k a.x (omega arith) c.if-kind-base.true c.if-object-base.true) ∙ c.loop-o.invariant.1
+
+pub loop-o-preserved : goal.loop-o-preserved
+loop-o-preserved c =
+    let a = c.args in
+    (omega arith, sym (seen_later _ _ a.base a.n c.loop-o.o a.k a.x (omega arith) (λ a b. ⊎_elim (λ w. w.2.left b) (λ w. w.left a) c.if-kind-base.branch)) ∙ c.loop-o.invariant.1)
+
+pub returns : goal.returns
+unfolding seen
+returns c =
+    let z : c.args.n - c.loop-o.o ≡ 0 = omega arith in
+    rw z at c.loop-o.invariant.1
