@@ -1,5 +1,4 @@
 use native.Mathlib.Omega.{arith}
-use Prim.Native.Nat.{◌-◌}
 use mathlib.Core.Path.{refl}
 use lib.Seq.{take_all}
 use Rattle.text.proofs.PutLaws.{put_length, put_more}

@@ -16,8 +16,7 @@ returns-in_default c =
 
 pub loop-j-preserved : goal.loop-j-preserved
 loop-j-preserved c =
-    let a = c.args in
-    (
+    let a = c.args in (
       omega arith,
       jobs_within _ a.objects a.declared c.loop-j.j _ _ _ _ _ (omega arith) _ _ _ _ _ c.job-f.ensures _ c.in-Number.is c.loop-j.invariant.1,
       sym (jobs_on _ a.objects a.declared c.loop-j.j _ _ _ _ _ (omega arith) _ _ _ _ _ c.job-f.ensures _ c.in-Number.is)

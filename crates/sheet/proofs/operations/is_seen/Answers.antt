@@ -1,10 +1,10 @@
 use Prim.Native.Nat.{◌+◌, ◌-◌}
 use native.Mathlib.Omega.{arith}
 use mathlib.Core.Path.{◌≡◌, sym, ◌∙◌}
-use mathlib.Core.Logic.{⊎_elim}
 use Rattle.sheet.specs.Sheet.{seen}
 use Rattle.sheet.specs.SheetLaws.{seen_here, seen_later}
 use Rattle.sheet.proofs.operations.is_seen.Goals as goal
+use Rattle.sheet.proofs.operations.is_seen.Goals.{then-kind-base+else-object-base, else-kind-base}
 
 pub loop-o-init : goal.loop-o-init
 loop-o-init c =
@@ -20,8 +20,13 @@ returns-then-object-base c =
 
 pub loop-o-preserved : goal.loop-o-preserved
 loop-o-preserved c =
-    let a = c.args in
-    (omega arith, sym (seen_later _ _ a.base a.n c.loop-o.o a.k a.x (omega arith) (λ a b. ⊎_elim (λ w. w.2.left b) (λ w. w.left a) c.if-kind-base.branch)) ∙ c.loop-o.invariant.1)
+    let a = c.args in (
+      omega arith,
+      sym (seen_later _ _ a.base a.n c.loop-o.o a.k a.x (omega arith) (λ k x. elim c.if-kind-base.branch [
+        | then-kind-base+else-object-base w ↦ w.if-object-base.false x
+        | else-kind-base w ↦ w.if-kind-base.false k
+      ])) ∙ c.loop-o.invariant.1,
+    )
 
 pub returns : goal.returns
 unfolding seen
