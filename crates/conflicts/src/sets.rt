@@ -84,7 +84,7 @@ pub fn find(
     clash: &mut [u32; 32],
 )
     requires jobs_bound { (jobs ≤ 32) × (objects ≤ 4096) × Stands jobs objects kind.now object.now × (writers.old ≡ replicate 512 0) }
-    requires ww_value { (ww.old ≡ replicate 32 0) × (rw.old ≡ replicate 32 0) × (wr.old ≡ replicate 32 0) × (clash.old ≡ replicate 32 0) }
+    requires zeros { (ww.old ≡ replicate 32 0) × (rw.old ≡ replicate 32 0) × (wr.old ≡ replicate 32 0) × (clash.old ≡ replicate 32 0) }
     ensures { (k : Stands jobs objects kind.now object.now)
         → SetsFound k.js kind.now object.now writers.new ww.new rw.new wr.new clash.new }
 {
