@@ -13,8 +13,8 @@ use Rattle.jobset.specs.JobsetLaws.{bit_lt, member_pos}
 use Rattle.theory.specs.Reach.{Best as Row}
 use Rattle.theory.proofs.ReachLaws.{through_links, path_links}
 use Rattle.chain.specs.Paths.{Edge, Open, Shows}
-use Rattle.chain.specs.PathLaws.{path_row}
-use Rattle.chain.specs.BestLaws.{lowest_best}
+use Rattle.chain.proofs.PathLaws.{path_row}
+use Rattle.chain.proofs.BestLaws.{lowest_best}
 use Rattle.chain.specs.Layers.{Way, Leads, Far, Layer, Fewest, Counted, Into, Down, Steps, Ready, Built}
 
 module _ (clash layers : List ℕ) where

@@ -14,7 +14,7 @@ use Rattle.jobset.specs.JobsetLaws.{bit_lt, bit_none, digit, member_below, some_
 use Rattle.jobset.specs.SizeLaws.{size_le, size_some, size_apart, size_missing}
 use Rattle.theory.proofs.ReachLaws.{through_links}
 use Rattle.chain.specs.Paths.{Edge, Open, Both}
-use Rattle.chain.specs.PathLaws.{edge_row}
+use Rattle.chain.proofs.PathLaws.{edge_row}
 use Rattle.chain.specs.Layers.{Around, Way, Leads, Far, Layer, Counted}
 
 module _ (clash : List ℕ) (shut goal : ℕ) where

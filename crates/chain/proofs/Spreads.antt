@@ -10,7 +10,7 @@ use Rattle.jobset.specs.Jobset.{bit, one, size, Lowest}
 use Rattle.jobset.specs.JobsetLaws.{bit_lt, bit_none, digit, one_lt, single_is, single_has}
 use Rattle.jobset.specs.SizeLaws.{size_le, size_sum_less}
 use Rattle.chain.specs.Paths.{Edge, Open, Path, Joined}
-use Rattle.chain.specs.PathLaws.{path_more}
+use Rattle.chain.proofs.PathLaws.{path_more}
 
 module _ (clash : List ℕ) (shut from : ℕ) where
   -- a path goes on from job k

@@ -1,5 +1,2 @@
 pub mod Paths
-pub mod PathLaws
-pub mod BestLaws
 pub mod Layers
-pub mod Settled

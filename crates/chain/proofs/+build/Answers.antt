@@ -1,8 +1,6 @@
-use mathlib.Core.Path.{◌∙◌}
 use Prim.Native.Nat.{◌-◌}
 use native.Mathlib.Numerals.{add-one}
 use native.Mathlib.Omega.{arith}
-use lib.ListN.{length-set}
 use Rattle.chain.proofs.Chains.{some_next, ready_next, built_more, built_end}
 use Rattle.chain.proofs.+build.Goals as goal
 
@@ -18,10 +16,6 @@ build-requires t c = (
   omega arith,
   ready_next _ _ _ _ _ c.intersect.ensures _ _ _ _ _ c.lowest-next.ensures (omega arith) (add-one _) c.requires,
 )
-
-pub shape_of-chain : goal.shape_of-chain
-shape_of-chain t c =
-    c.build.auto.chain ∙ length-set c.args.chain.now c.args.at _
 
 pub returns : goal.returns
 returns t c =

@@ -1,7 +1,5 @@
-use mathlib.Core.Path.{sym, ◌∙◌}
 use native.Mathlib.Omega.{arith}
 use borrow.Author.Rules.{rules}
-use lib.ListN.{length-set}
 use Rattle.chain.proofs.Layers.{going_starts, going_below, going_found, going_more, going_ends}
 use Rattle.chain.proofs.count_links.Goals as goal
 
@@ -12,9 +10,6 @@ loop-layer-init c =
 
 pub bounds-layers-n : goal.bounds-layers-n
 bounds-layers-n c = omega (arith, going_below _ _ _ _ _ _ _ _ c.loop-layer.invariant c.loop-layer-test.true)
-
-pub shape_of-layers-then-intersect-gt0 : goal.shape_of-layers-then-intersect-gt0
-shape_of-layers-then-intersect-gt0 c = simp length-set (c.loop-layer.invariant.room ∙ sym c.requires.tables.1)
 
 pub returns-then-intersect-gt0 : goal.returns-then-intersect-gt0
 returns-then-intersect-gt0 c =
@@ -50,9 +45,6 @@ loop-layer-preserved c =
     c.without.ensures
     c.without-layer.ensures
     c.union-seen.ensures
-
-pub shape_of-layers : goal.shape_of-layers
-shape_of-layers c = c.loop-layer.invariant.room ∙ sym c.requires.tables.1
 
 pub returns : goal.returns
 returns c = going_ends _ _ _ _ _ _ _ _ (omega arith) c.loop-layer.invariant

@@ -10,15 +10,6 @@ use Rattle.chain.proofs.show.Goals as goal
 pub returns-then-links-eq0 : goal.returns-then-links-eq0
 returns-then-links-eq0 c = shown_none _ _ _ _ _ _ _ c.if-links-eq0.true c.count_links-links.ensures
 
--- where the two ways meet, the layers are 32
-pub slice_bounds-build-end-2 : goal.slice_bounds-build-end-2
-slice_bounds-build-end-2 c =
-    let long : length c.if-first-last.layers ≡ 32 = elim c.if-first-last.branch [
-      | then-first-last+else-links-eq0 w ↦ rw w.layers-is w.count_links-links.auto.layers
-      | else-first-last w ↦ rw w.layers-is refl
-    ] in
-    search (rules, long)
-
 pub build-requires : goal.build-requires
 build-requires c =
     let long : length c.if-first-last.layers ≡ 32 = elim c.if-first-last.branch [
@@ -38,14 +29,6 @@ build-requires c =
       job = c.requires.0;
       down = fewest_down _ _ _ _ _ _ fewest;
     }
-
-pub overflow_add-result : goal.overflow_add-result
-overflow_add-result c =
-    elim c.if-first-last.branch [
-      | then-first-last+else-links-eq0 w ↦
-          omega (arith, (fewest_apart _ _ _ _ _ _ w.if-links-eq0.false w.count_links-links.ensures).room)
-      | else-first-last w ↦ omega arith
-    ]
 
 pub returns : goal.returns
 returns c =

@@ -4,7 +4,7 @@ use Rattle.std.proofs.Common.{sym, ap, ap₂, ◌∙◌, inl, inr, arith}
 use Rattle.jobset.specs.Jobset.{bit}
 use Rattle.jobset.specs.JobsetLaws.{bit_lt, digit, same_bits}
 use Rattle.chain.specs.Paths.{Joined, Shows}
-use Rattle.chain.specs.BestLaws.{best_once}
+use Rattle.chain.proofs.BestLaws.{best_once}
 
 module _ (clash : List ℕ) (shut : ℕ) where
   pub joined_once : (from r s : ℕ) → r < 2 ^ 32 → s < 2 ^ 32 → Joined clash shut from r → Joined clash shut from s → r ≡ s

@@ -10,7 +10,7 @@ use Rattle.theory.specs.Reach.{Best as Lowest, Path as Row}
 use Rattle.theory.proofs.ReachLaws.{through_links, path_links, best_path, best_low, shortest_distinct}
 use Rattle.theory.proofs.ShownLaws.{before_not}
 use Rattle.chain.specs.Paths.{Edge, Open, Path, Best}
-use Rattle.chain.specs.PathLaws.{path_row, row_path}
+use Rattle.chain.proofs.PathLaws.{path_row, row_path}
 use Rattle.chain.specs.Layers.{Way, Leads}
 
 -- the lowest number with a property that can be decided, or none below a bound has it
