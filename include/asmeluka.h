@@ -1,8 +1,7 @@
 /* The level planner's questions for C (C99 and later) and C++.
  *
  * Link with crates/planner_c/out/libplanner_c.a (x86-64 Linux objects), which `rt lib`, in crates/planner_c, proves and
- * writes.
- * For every content of the bytes lent to it, each function is proved to end and to answer as said here;
+ * writes. For every content of the bytes lent to it, each function is proved to end and to answer as said here;
  * docs/STATEMENTS.md has the promises. What a sheet, a danger and the lowest levels are is fixed by document 01, whose
  * sections are cited, and said in other words in docs/SHEET.md and docs/DANGERS.md.
  *
