@@ -1,5 +1,5 @@
-/* Time, always of one side beside another or of one sheet beside another: a time by itself says little, and nothing
- * under an emulator. The best of many short rounds counts, so that what else the machine does is left out. */
+/* Time, always of one side beside another or of one sheet beside another: a time by itself says little. The best of many
+ * short rounds counts, so that what else the machine does is left out. */
 #define _GNU_SOURCE
 #include <stdio.h>
 #include <string.h>

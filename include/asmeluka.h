@@ -1,7 +1,7 @@
 /* The level planner's questions for C (C99 and later) and C++.
  *
- * Link with target/staticlib/libplanner_c.a (x86-64 Linux objects), which `rt staticlib planner_c` proves and writes.
- * For every content of the bytes lent to it, each function is proved to end and to answer as said here;
+ * Link with crates/planner_c/out/libplanner_c.a (x86-64 Linux objects), which `rt lib`, in crates/planner_c, proves and
+ * writes. For every content of the bytes lent to it, each function is proved to end and to answer as said here;
  * docs/STATEMENTS.md has the promises. What a sheet, a danger and the lowest levels are is fixed by document 01, whose
  * sections are cited, and said in other words in docs/SHEET.md and docs/DANGERS.md.
  *
@@ -10,7 +10,8 @@
  * job goes unnoticed (README.md, "What this does not promise").
  *
  * What the library needs: memcpy and memset; the SSE2 registers, which an interrupt handler that calls it must save; at
- * most 8 KiB of stack (measured, docs/FIGURES.md). It has no data, takes no memory and keeps nothing between calls.
+ * most 8 KiB of stack (measured with an older kit, docs/FIGURES.md). It has no data, takes no memory and keeps nothing
+ * between calls.
  *
  * What the caller keeps, since no proof sees it:
  *   - An address is good for as many bytes as the length beside it says, `found` for PLANNER_FOUND bytes. No address is
