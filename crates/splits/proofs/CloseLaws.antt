@@ -18,8 +18,8 @@ use Rattle.conflicts.specs.Sets.{Has, Sets, over, op_with, job_with}
 use Rattle.conflicts.proofs.Among.{same_test}
 use Rattle.splits.specs.Splits.{watch?, shut?, closed?}
 use Rattle.splits.specs.Steps.{Besides, closing?}
-use Rattle.splits.specs.SplitsLaws.{with_means}
-use Rattle.splits.specs.HasLaws.{left_over, has_also, has_or}
+use Rattle.splits.proofs.SplitsLaws.{with_means}
+use Rattle.splits.proofs.HasLaws.{left_over, has_also, has_or}
 use Rattle.splits.proofs.PartLaws.{some_upto_next, some_from_lem}
 
 -- the next operation goes over from the later ones to the prefix

@@ -6,3 +6,8 @@ pub mod ReturnLaws
 pub mod CloseLaws
 pub mod ReturnSteps
 pub mod SplitSteps
+pub mod SplitsLaws
+pub mod AboveLaws
+pub mod HasLaws
+pub mod WatchLaws
+pub mod JoinedLaws

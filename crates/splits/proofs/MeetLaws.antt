@@ -10,7 +10,7 @@ use Rattle.jobset.specs.Jobset.{bit}
 use Rattle.jobset.specs.JobsetLaws.{bit_lt, bit_none, some_member, member_pos}
 use Rattle.chain.specs.Paths.{Joined}
 use Rattle.splits.specs.Splits.{Meets, Meeting}
-use Rattle.splits.specs.JoinedLaws.{joined_meets}
+use Rattle.splits.proofs.JoinedLaws.{joined_meets}
 
 -- no job is in the empty set
 nobody : (m k : ℕ) → m ≡ 0 → ¬ (bit m k ≡ 1)

@@ -17,8 +17,8 @@ use Rattle.conflicts.proofs.Among.{same_test}
 use Rattle.conflicts.proofs.RelationLaws.{meet_or}
 use Rattle.splits.specs.Splits.{return?}
 use Rattle.splits.specs.Steps.{Besides, returning?, Returning}
-use Rattle.splits.specs.SplitsLaws.{with_means}
-use Rattle.splits.specs.JoinedLaws.{clash_back}
+use Rattle.splits.proofs.SplitsLaws.{with_means}
+use Rattle.splits.proofs.JoinedLaws.{clash_back}
 use Rattle.splits.proofs.PartLaws.{some_from_lem}
 use Rattle.splits.proofs.StoreLaws.{set_each}
 

@@ -17,7 +17,7 @@ use Rattle.theory.proofs.DangerLaws.{robust_higher}
 use Rattle.theory.specs.Lowest.{level}
 use Rattle.conflicts.specs.Sets.{Has}
 use Rattle.splits.specs.Splits.{ssi?, watch?}
-use Rattle.splits.specs.WatchLaws.{watch_has}
+use Rattle.splits.proofs.WatchLaws.{watch_has}
 use Rattle.verdict.specs.Verdict.{IsSplit, RobustFor}
 
 -- RC for what is beyond the jobs

@@ -14,9 +14,9 @@ use Rattle.theory.specs.Guards.{Paper}
 use Rattle.theory.proofs.KnownLaws.{b1_known}
 use Rattle.conflicts.specs.Sets.{Has, Sets}
 use Rattle.splits.specs.Splits.{watch?, shut?, Meets, first?, last?, first_any?, last_any?, Splits}
-use Rattle.splits.specs.SplitsLaws.{watch_means}
-use Rattle.splits.specs.HasLaws.{has_in}
-use Rattle.splits.specs.JoinedLaws.{danger_joined, danger_any_joined}
+use Rattle.splits.proofs.SplitsLaws.{watch_means}
+use Rattle.splits.proofs.HasLaws.{has_in}
+use Rattle.splits.proofs.JoinedLaws.{danger_joined, danger_any_joined}
 use Rattle.verdict.specs.Verdict.{Tells, IsSplit}
 
 pub tells_yes : {P : Type 0} → P → Tells P true

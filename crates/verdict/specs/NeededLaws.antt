@@ -12,9 +12,9 @@ use Rattle.jobset.specs.JobsetLaws.{bit_lt, bit_none, digit}
 use Rattle.chain.specs.Paths.{Path}
 use Rattle.conflicts.specs.Sets.{Has, Sets, job_with}
 use Rattle.splits.specs.Splits.{watch?, shut?, Parts, first_any?, last_any?}
-use Rattle.splits.specs.SplitsLaws.{apart, watch_means}
-use Rattle.splits.specs.HasLaws.{has_in, has_out}
-use Rattle.splits.specs.JoinedLaws.{later_known, path_back, danger_any_joined}
+use Rattle.splits.proofs.SplitsLaws.{apart, watch_means}
+use Rattle.splits.proofs.HasLaws.{has_in, has_out}
+use Rattle.splits.proofs.JoinedLaws.{later_known, path_back, danger_any_joined}
 use Rattle.verdict.specs.Verdict.{IsSplit}
 use Rattle.verdict.specs.Needed.{only, Hit, both, ahead, behind, NeededBy}
 use Rattle.verdict.specs.OnlyLaws.{only_at, only_other}

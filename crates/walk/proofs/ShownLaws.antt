@@ -12,7 +12,7 @@ use Rattle.theory.proofs.PairLaws.{shown}
 use Rattle.chain.specs.Paths.{Both, Written, Shows}
 use Rattle.conflicts.specs.Sets.{Has}
 use Rattle.splits.specs.Splits.{shut?, ShutBy}
-use Rattle.splits.specs.JoinedLaws.{edges_back, path_shown, chain_is_path}
+use Rattle.splits.proofs.JoinedLaws.{edges_back, path_shown, chain_is_path}
 use Rattle.walk.specs.ShownIn.{DangerIn, ShownIn, ToPair, pair_row}
 
 module _ {kind object clash : List ℕ} {level t1 b1 t2 tm : ℕ} (d : DangerIn kind object clash level t1 b1 t2 tm) where

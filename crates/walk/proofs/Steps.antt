@@ -19,8 +19,8 @@ use Rattle.theory.specs.Walk as theory
 use Rattle.theory.specs.Walk.{Walks, from_one_lem}
 use Rattle.conflicts.specs.Sets.{Sets, Has}
 use Rattle.splits.specs.Splits.{watch?, shut?, Splits}
-use Rattle.splits.specs.HasLaws.{has_in}
-use Rattle.splits.specs.JoinedLaws.{danger_joined, path_back}
+use Rattle.splits.proofs.HasLaws.{has_in}
+use Rattle.splits.proofs.JoinedLaws.{danger_joined, path_back}
 use Rattle.walk.specs.Answers.{named}
 use Rattle.walk.specs.Sides.{Firsts, Lasts}
 use Rattle.walk.specs.Starts.{key_at, Starts}

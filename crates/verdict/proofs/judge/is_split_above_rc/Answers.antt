@@ -1,6 +1,6 @@
 use mathlib.Core.Logic.{inl, inr}
 use Rattle.theory.specs.Form1.{form1}
-use Rattle.splits.specs.HasLaws.{has_left}
+use Rattle.splits.proofs.HasLaws.{has_left}
 use Rattle.verdict.proofs.SplitLaws.{tells_yes, free_apart, held_apart, apart_cases, above_means}
 use Rattle.verdict.proofs.judge.is_split_above_rc.Goals as goal
 

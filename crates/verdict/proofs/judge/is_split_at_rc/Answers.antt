@@ -1,7 +1,7 @@
 use native.Mathlib.Omega.{arith}
 use borrow.Author.Count.{below_more}
 use Rattle.theory.specs.Form1.{form1}
-use Rattle.splits.specs.WatchLaws.{watch_none}
+use Rattle.splits.proofs.WatchLaws.{watch_none}
 use Rattle.verdict.proofs.SplitLaws.{tells_yes, tells_no, rc_means}
 use Rattle.verdict.proofs.judge.is_split_at_rc.Goals as goal
 

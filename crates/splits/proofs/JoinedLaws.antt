@@ -15,9 +15,9 @@ use Rattle.jobset.specs.JobsetLaws.{member_below}
 use Rattle.chain.specs.Paths.{Edge, Open, Path, Best, Joined, Both}
 use Rattle.conflicts.specs.Sets.{Has, Sets, job_with}
 use Rattle.splits.specs.Splits.{shut?, Meets, Parts, first?, last?, first_any?, last_any?}
-use Rattle.splits.specs.SplitsLaws.{with_means, none_means, first_means, last_means, danger_found}
-use Rattle.splits.specs.AboveLaws.{first_any, last_any, danger_any}
-use Rattle.splits.specs.HasLaws.{has_in, has_out}
+use Rattle.splits.proofs.SplitsLaws.{with_means, none_means, first_means, last_means, danger_found}
+use Rattle.splits.proofs.AboveLaws.{first_any, last_any, danger_any}
+use Rattle.splits.proofs.HasLaws.{has_in, has_out}
 
 -- in a row with no job twice the next is another
 next : (i j : ℕ) (c : List ℕ) → T (distinct? (i ∷ j ∷ c)) → ¬ (i ≡ j)

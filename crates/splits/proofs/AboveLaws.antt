@@ -8,7 +8,7 @@ use Rattle.theory.proofs.DangerLaws.{none_whole, none_prefix, none_postfix}
 use Rattle.theory.specs.Guards.{Paper}
 use Rattle.conflicts.specs.Sets.{job_with}
 use Rattle.splits.specs.Splits.{watch?, Parts, first?, last?, first_any?, last_any?}
-use Rattle.splits.specs.SplitsLaws.{less, with_means, none_means, unnoticed_means, Clear, first_means, last_means, danger_found}
+use Rattle.splits.proofs.SplitsLaws.{less, with_means, none_means, unnoticed_means, Clear, first_means, last_means, danger_found}
 
 module _ (r : Rule) (js : Jobs r) (lv : ℕ → ℕ) (t1 : ℕ) where
   -- the tests of first and last jobs that leave the operation out

@@ -10,7 +10,7 @@ use Rattle.jobset.specs.Jobset.{bit, one}
 use Rattle.jobset.specs.JobsetLaws.{bit_none, bit_lt, one_and}
 use Rattle.conflicts.specs.Sets.{Has}
 use Rattle.splits.specs.Splits.{ssi?, watch?}
-use Rattle.splits.specs.HasLaws.{has_in, has_out}
+use Rattle.splits.proofs.HasLaws.{has_in, has_out}
 
 module _ (lv : ℕ → ℕ) (t1 : ℕ) where
   -- nothing is watched together with a job below SSI
