@@ -1,15 +1,9 @@
--- The walk passes no danger: each loop's invariant says so from that loop's own start on, and the loops are joined one after the other.
+-- No loop passes a danger: each joins what it has passed to what the loops around it had.
 use mathlib.Core.Path.{refl, sym, ◌∙◌}
-use mathlib.Core.List.{List}
-use Prim.Native.Nat.{ℕ, ◌-◌}
 use native.Mathlib.Omega.{arith}
 use Rattle.walk.proofs.Keys.{set_out, go_on}
-use Rattle.walk.proofs.Steps.{Tables, level_of_is, level_of_lem, watched_has, next_last, next_first, next_operation, next_job, ends, finds}
+use Rattle.walk.proofs.Steps.{level_of_is, level_of_lem, watched_has, next_last, next_first, next_operation, next_job, ends, finds}
 use Rattle.walk.proofs.above.first_above.Goals as goal
-
-abbrev tables : ℕ → List ℕ → List ℕ → List ℕ → List ℕ → List ℕ → List ℕ → List ℕ → Tables
-tables jobs kind writers ww rw wr clash levels =
-    record { jobs = jobs; kind = kind; writers = writers; ww = ww; rw = rw; wr = wr; clash = clash; levels = levels }
 
 pub walk-init : goal.walk-init
 walk-init c = (refl, refl, set_out _ _ _ _ _ (omega arith))
@@ -21,7 +15,7 @@ operation-init c =
     let levels = c.args.levels.now in
     let ssi = watched_has jobs levels c.walk.t _ _ c.if-jobs-t.false c.at_ssi-ssi.ensures watch.ensures in (
       record {
-        c.PLACE_Else1 = omega (arith, c.if-jobs-t.false, c.requires);
+        known = omega (arith, c.if-jobs-t.false, c.requires);
         ssi = ssi;
         closed = λ js of. c.shut_by-shut.ensures js _ _ _ _ _ of;
         splits = λ js of. c.find_splits.ensures.splits js (level_of_lem jobs levels) _ of (level_of_is jobs levels c.walk.t c.if-jobs-t.false) ssi;
@@ -51,12 +45,11 @@ first-preserved c =
     (omega arith) c.end_of-last_end.ensures.1 c.last-test.false (go_on _ c.first.invariant c.last.invariant)
 
 pub operation-preserved : goal.operation-preserved
-operation-preserved c =
-    (
-      c.operation.invariant.0,
-      next_operation _ _ _ _ _ _ c.operation.invariant.0 (omega arith) _ c.firsts_of-firsts.ensures _ c.BAD_end_of_lem.ensures.1
-          c.first-test.false (go_on _ c.operation.invariant.1 c.first.invariant),
-    )
+operation-preserved c = (
+  c.operation.invariant.0,
+  next_operation _ _ _ _ _ _ c.operation.invariant.0 (omega arith) _ c.firsts_of-firsts.ensures _ c.end_of-first_end.ensures.1
+      c.first-test.false (go_on _ c.operation.invariant.1 c.first.invariant),
+)
 
 pub walk-preserved : goal.walk-preserved
 walk-preserved c =

@@ -1,10 +1,16 @@
+-- The walk passes no danger: each loop's invariant says so from that loop's own start on, and the loops are joined one after the other.
 use mathlib.Core.Path.{◌≡◌}
-use Prim.Native.Nat.{◌-◌}
+use mathlib.Core.List.{List}
+use Prim.Native.Nat.{ℕ, ◌-◌}
 use lib.ListN.{length}
 use Rattle.walk.specs.Starts.{key}
 use Rattle.walk.proofs.Keys.{Passed}
-use Rattle.walk.proofs.Steps.{DangerAt, Ready}
+use Rattle.walk.proofs.Steps.{Tables, DangerAt, Ready}
 use Rattle.walk.proofs.above.first_above.Given as goal
+
+abbrev tables : ℕ → List ℕ → List ℕ → List ℕ → List ℕ → List ℕ → List ℕ → List ℕ → Tables
+tables jobs kind writers ww rw wr clash levels =
+    record { jobs = jobs; kind = kind; writers = writers; ww = ww; rw = rw; wr = wr; clash = clash; levels = levels }
 
 abbrev pub invariant-last : goal.invariant-last
 invariant-last l =

@@ -3,14 +3,14 @@ use Rattle.walk.proofs.ShownLaws.{split_small, askable, pairs_askable, shown_in}
 use Rattle.walk.proofs.shown.show.Goals as goal
 
 pub shut_by-shut-requires : goal.shut_by-shut-requires
-shut_by-shut-requires c = split_small c.requires.1
+shut_by-shut-requires c = split_small c.requires.danger_in
 
 pub show-n-requires : goal.show-n-requires
-show-n-requires c = askable c.requires.1
+show-n-requires c = askable c.requires.danger_in
 
 pub write_pairs-requires : goal.write_pairs-requires
 write_pairs-requires c =
-    (c.requires.0, pairs_askable c.requires.1 _ c.shut_by-shut.ensures _ _ _ c.show-n.ensures)
+    record { pairs_len = c.requires.pairs_len; to_pair = pairs_askable c.requires.danger_in _ c.shut_by-shut.ensures _ _ _ c.show-n.ensures }
 
 pub returns : goal.returns
 returns c d =

@@ -2,6 +2,7 @@ use mathlib.Core.Path.{◌≡◌}
 use Prim.Native.Nat.{◌-◌}
 use lib.ListN.{length}
 use Rattle.walk.specs.ShownIn.{ToPair}
+use Rattle.walk.proofs.PairsLaws.{Going}
 use Rattle.walk.proofs.shown.write_pairs.Given as goal
 
 abbrev pub invariant-loop-at : goal.invariant-loop-at
