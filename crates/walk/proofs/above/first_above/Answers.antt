@@ -2,7 +2,7 @@
 use mathlib.Core.Path.{refl, sym, ◌∙◌}
 use native.Mathlib.Omega.{arith}
 use Rattle.walk.proofs.Keys.{set_out, go_on}
-use Rattle.walk.proofs.Steps.{level_of_is, level_of_lem, watched_has, next_last, next_first, next_operation, next_job, ends, finds}
+use Rattle.walk.proofs.Steps.{DangerAt, level_of_is, level_of_lem, watched_has, next_last, next_first, next_operation, next_job, ends, finds}
 use Rattle.walk.proofs.above.first_above.Goals as goal
 
 pub walk-init : goal.walk-init
@@ -29,11 +29,6 @@ first-init c = set_out _ _ _ _ _ c.operation.invariant.1.small
 pub last-init : goal.last-init
 last-init c = set_out _ _ _ _ _ c.first.invariant.small
 
-pub from_one-requires : goal.from_one-requires
-from_one-requires c =
-    let ready = c.operation.invariant.0 in
-    omega (arith, c.operation-test.true)
-
 pub last-preserved : goal.last-preserved
 last-preserved c =
     next_last _ _ _ _ _ _ c.operation.invariant.0 (omega arith) _ c.firsts_of-firsts.ensures _ c.lasts_of-lasts.ensures
@@ -54,7 +49,7 @@ operation-preserved c = (
 pub walk-preserved : goal.walk-preserved
 walk-preserved c =
     let full = c.find_splits.ensures in
-    (full.first_full, full.last_full, next_job _ _ _ _ _ _ c.operation-test.false (go_on _ c.walk.invariant.2 c.operation.invariant.1))
+    (full.first_full, full.last_full, next_job _ _ _ _ _ _ c.operation-test.false (go_on (DangerAt _) c.walk.invariant.2 c.operation.invariant.1))
 
 pub returns-then-jobs-t : goal.returns-then-jobs-t
 returns-then-jobs-t c =

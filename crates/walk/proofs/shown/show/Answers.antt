@@ -8,9 +8,8 @@ shut_by-shut-requires c = split_small c.requires.danger_in
 pub show-n-requires : goal.show-n-requires
 show-n-requires c = askable c.requires.danger_in
 
-pub write_pairs-requires : goal.write_pairs-requires
-write_pairs-requires c =
-    record { pairs_len = c.requires.pairs_len; to_pair = pairs_askable c.requires.danger_in _ c.shut_by-shut.ensures _ _ _ c.show-n.ensures }
+pub write_pairs-requires-clause-to_pair : goal.write_pairs-requires-clause-to_pair
+write_pairs-requires-clause-to_pair c = pairs_askable c.requires.danger_in _ c.shut_by-shut.ensures _ _ _ c.show-n.ensures
 
 pub returns : goal.returns
 returns c d =

@@ -23,9 +23,6 @@ use Rattle.walk.proofs.PairsLaws.{
 use Rattle.walk.proofs.shown.write_pairs.Goals as goal
 use Rattle.walk.proofs.shown.write_pairs.Goals.{then-level-lt1, else-level-lt1}
 
-pub partner-a2-requires : goal.partner-a2-requires
-partner-a2-requires c = ends_known c.requires.to_pair
-
 pub put_pair-requires : goal.put_pair-requires
 put_pair-requires c =
     let w = c.requires.to_pair in
@@ -36,10 +33,6 @@ loop-at-init c = (
   ap length c.put_pair.ensures ∙ simp length-set c.requires.pairs_len,
   λ w. begun w _ (c.partner-a2.ensures w.js w.laid) c.args.pairs.now _ c.requires.pairs_len c.put_pair.ensures,
 )
-
-pub bounds-chain-at : goal.bounds-chain-at
-bounds-chain-at c = let w = c.requires.to_pair in
-    omega (arith, few w)
 
 pub job_of-to-requires : goal.job_of-to-requires
 job_of-to-requires c =
@@ -64,9 +57,6 @@ loop-at-preserved c = (
   λ w. linked w (c.loop-at.invariant.1 w) c.loop-at-test.true _ c.job_of-to.ensures _ _
       (c.lowest_pair-link.ensures w.js w.laid) _ c.loop-at.invariant.0 c.put_pair-in-loop-at.ensures,
 )
-
-pub overflow_add-any : goal.overflow_add-any
-overflow_add-any c = omega (arith, ends_known c.requires.to_pair)
 
 pub lowest_pair-back-requires : goal.lowest_pair-back-requires
 lowest_pair-back-requires c =
