@@ -1,6 +1,6 @@
 -- From the danger that the walk finds to the chain shown beside it, one law for each outcome.
 -- Assumes nothing.
-use Prim.Native.Nat.{ℕ, suc, ◌-◌, ◌<◌}
+use Prim.Native.Nat.{ℕ, ◌-◌, ◌<◌}
 use mathlib.Core.Path.{◌≡◌, refl, sym, ap, subst}
 use mathlib.Core.List.{List}
 use native.Mathlib.Omega.{arith}
@@ -12,7 +12,7 @@ use Rattle.theory.proofs.KnownLaws.{t1_known}
 use Rattle.theory.specs.Lowest.{level}
 use Rattle.theory.specs.Planner.{Danger₁, Walks₁}
 use Rattle.theory.specs.Walk as theory
-use Rattle.sheet.specs.Step.{Step, ok}
+use Rattle.sheet.specs.Step.{ok}
 use Rattle.walk.specs.Answers.{named, answered}
 use Rattle.walk.specs.ShownIn.{DangerIn, ShownIn}
 use Rattle.walk.specs.declared.four.Four.{Four}

@@ -1,7 +1,7 @@
 -- The checks that a question makes before it answers (document 01, "Reasons for turning a call down"): the sheet's own faults come
 -- first, then 13, 14 and 15, each only where the question has that argument.
 use Rattle.std.specs.Prelude.{ℕ, suc, not, List, [], ◌∷◌, ltb, eqb, length}
-use Rattle.sheet.specs.Step.{Step, ok, fault, refuse, next}
+use Rattle.sheet.specs.Step.{Step, ok, refuse, next}
 use Rattle.sheet.specs.Sheet.{sheet_of}
 use Rattle.sheet.specs.Answer.{fault_of}
 use Rattle.sheet.specs.declared.Table.{Table}
