@@ -20,7 +20,7 @@ use Rattle.verdict.specs.Verdict.{Lowers}
 use Rattle.walk.specs.declared.four.Four.{Four}
 use Rattle.planner.specs.Checks.{with_levels, with_room}
 use Rattle.planner.specs.Questions.{Answers, verdict_of, walk_of, handed_of, InBuffer, LowestHanded, Copies, LevelsCopied}
-use Rattle.planner.specs.Settled as questions
+use Rattle.planner.proofs.Settled as questions
 use Rattle.planner.specs.declared.Verdict.{Verdict}
 use Rattle.planner.specs.declared.Verdict.TheVariants as verdict
 use Rattle.planner.specs.declared.Walk.{Walk}
