@@ -1,42 +1,56 @@
 // Prints what document 01, "The program `survey`", asks of the sheet on standard input.
 #![tactic(auto)]
 
+mod input;
 mod lines;
 
-ghost use Rattle.std.specs.Prelude.{◌≤◌, length};
+ghost use Rattle.std.specs.Prelude.{◌≡◌, ◌≤◌, length};
 ghost use Rattle.conflicts.specs.Laid.{Stands};
 ghost use Rattle.planner.specs.Stands.{SetsStand};
 ghost use Rattle.survey.specs.Bytes.{Bytes};
 
+use input::read_full;
 use lines::{put_head, put_levels, put_named};
 use planner::Walk;
 use planner::steps::next_of;
 use sheet::Reading;
+use std::io;
 use text::lines::{put_danger, put_refusal};
 use text::put;
 use verdict::lowest::find_lowest;
 use walk::four::Four;
 
-// Writes the lines away.
-fn flush(out: &[u8], used: &mut usize) {
-    io::write_all(1, text::held(out, *used));
+// Writes the lines away. The buffer is empty afterwards, also where a write failed.
+fn flush(rt: &impl Print, out: &[u8], used: &mut usize) -> io::Result<()>
+    ensures { used.new ≡ 0 }
+{
+    let written = rt.write_all(text::held(out, *used));
     *used = 0;
+    written
 }
 
 // A danger and its chain. That its numbers are bytes tells whoever walks on that there is an end.
-fn put_found(q: Four, chain: &[u8; 32], out: &mut [u8], used: &mut usize)
+fn put_found(
+    rt: &impl Print,
+    q: Four,
+    chain: &[u8; 32],
+    out: &mut [u8],
+    used: &mut usize,
+) -> io::Result<()>
     ensures { Bytes q }
 {
     let numbers = [q.t1, q.b1, q.t2, q.tm];
     put_danger(out, used, &numbers, chain);
     put(out, used, b'\n');
     if text::is_due(out, *used) {
-        flush(out, used);
+        return flush(rt, out, used);
     }
+    Ok(())
 }
 
 // All dangers in turn, and how many there are.
 fn put_dangers(
+    rt: &impl Print,
     jobs: usize,
     kind: &[u8; 512],
     object: &[u16; 512],
@@ -48,7 +62,7 @@ fn put_dangers(
     level: &[u8],
     out: &mut [u8],
     used: &mut usize,
-)
+) -> io::Result<()>
     requires jobs_bound { (jobs ≤ 32) × (jobs ≤ length level.now) }
     requires sets_stand { SetsStand jobs kind.now object.now writers.now ww.now rw.now wr.now clash.now }
 {
@@ -64,9 +78,9 @@ fn put_dangers(
         let w = step.walk;
         let Walk::Found(q) = w else {
             put_named(b"dangers ", count, out, used);
-            return;
+            return Ok(());
         };
-        put_found(q, &step.chain, out, used);
+        put_found(rt, q, &step.chain, out, used)?;
         count += 1;
         from = q;
     }
@@ -94,6 +108,7 @@ fn put_lowest(
 
 // What is printed of the jobs in the arrays, by their sets.
 fn put_lines(
+    rt: &impl Print,
     jobs: usize,
     objects: usize,
     kind: &[u8; 512],
@@ -106,19 +121,21 @@ fn put_lines(
     level: &[u8],
     out: &mut [u8],
     used: &mut usize,
-)
+) -> io::Result<()>
     requires jobs_bound { (jobs ≤ 32) × (jobs ≤ length level.now) }
     requires sets_stand { SetsStand jobs kind.now object.now writers.now ww.now rw.now wr.now clash.now }
 {
     put_head(jobs, objects, out, used);
     put_dangers(
-        jobs, kind, object, writers, ww, rw, wr, clash, level, out, used,
-    );
+        rt, jobs, kind, object, writers, ww, rw, wr, clash, level, out, used,
+    )?;
     put_lowest(jobs, kind, writers, ww, rw, wr, clash, out, used);
+    Ok(())
 }
 
 // What is printed of a table that was read. Its sets are worked out once, for the walk and for the lowest levels.
 fn put_table<'a>(
+    rt: &impl Print,
     jobs: usize,
     objects: usize,
     level: &'a [u8; 32],
@@ -126,7 +143,7 @@ fn put_table<'a>(
     object: &'a [u16; 512],
     out: &mut [u8],
     used: &mut usize,
-)
+) -> io::Result<()>
     requires { (jobs ≤ 32) × (objects ≤ 4096) × Stands jobs objects kind.now object.now }
 {
     let mut writers = [0u32; 512];
@@ -146,20 +163,21 @@ fn put_table<'a>(
         &mut clash,
     );
     put_lines(
-        jobs, objects, kind, object, &writers, &ww, &rw, &wr, &clash, level, out, used,
-    );
+        rt, jobs, objects, kind, object, &writers, &ww, &rw, &wr, &clash, level, out, used,
+    )
 }
 
-fn survey(s: &[u8], out: &mut [u8], used: &mut usize) {
+fn survey(rt: &impl Print, s: &[u8], out: &mut [u8], used: &mut usize) -> io::Result<()> {
     let a = sheet::read_sheet(s);
     let reading = a.reading;
     if let Reading::Refused(r) = reading {
         let reason = r.reason;
         put_refusal(out, used, sheet::number(reason), r.place);
         put(out, used, b'\n');
-        return;
+        return Ok(());
     }
     put_table(
+        rt,
         a.table.jobs,
         a.table.objects,
         &a.table.level,
@@ -167,14 +185,14 @@ fn survey(s: &[u8], out: &mut [u8], used: &mut usize) {
         &a.table.object,
         out,
         used,
-    );
+    )
 }
 
-fn main() {
+fn main(rt: HostRuntime) -> io::Result<()> {
     let mut bytes = [0u8; 4096];
     let mut out = [0u8; 32768];
     let mut used = 0;
-    let n = io::read_full(0, &mut bytes);
-    survey(&bytes[..n], &mut out, &mut used);
-    flush(&out, &mut used);
+    let n = read_full(&mut rt.stdin(), &mut bytes)?;
+    survey(&rt, &bytes[..n], &mut out, &mut used)?;
+    flush(&rt, &out, &mut used)
 }

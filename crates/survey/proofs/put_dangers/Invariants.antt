@@ -1,0 +1,11 @@
+-- Each danger has a key of its own, so there are no more of them than the key says.
+use Rattle.std.proofs.Common.{◌-◌, ◌≤◌}
+use Rattle.survey.specs.Bytes.{Bytes}
+use Rattle.survey.proofs.RiseLaws.{key_of}
+use Rattle.survey.proofs.put_dangers.Given as goal
+
+abbrev pub invariant-loop-q : goal.invariant-loop-q
+invariant-loop-q g l = (l.count ≤ key_of l.from) × Bytes l.from
+
+abbrev pub decreases-loop-q : goal.decreases-loop-q
+decreases-loop-q g l = 4294967296 - key_of l.from
