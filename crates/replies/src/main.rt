@@ -4,10 +4,12 @@
 mod input;
 mod question;
 
-ghost use Rattle.std.specs.Prelude.{◌≤◌};
+ghost use Rattle.std.specs.Prelude.{◌≡◌, ◌≤◌};
 
 use input::{Got, Number, byte, double_word};
 use question::Turn;
+use std::io;
+use std::io::Read;
 use text::{put, put_number, put_word};
 
 // How the stream ended, with the number of the question at fault.
@@ -18,14 +20,19 @@ enum Ending {
     Malformed(usize),
 }
 
-// Writes the lines away.
-fn flush(out: &[u8], used: &mut usize) {
-    io::write_all(1, text::held(out, *used));
+// Writes the lines away. The buffer is empty afterwards, also where a write failed.
+fn flush(rt: &impl Print, out: &[u8], used: &mut usize) -> io::Result<()>
+    ensures { used.new ≡ 0 }
+{
+    let written = rt.write_all(text::held(out, *used));
     *used = 0;
+    written
 }
 
 // n questions, and nothing behind them.
 fn questions(
+    rt: &impl Print,
+    input: &mut impl Read,
     n: usize,
     ahead: &mut [u8; 65536],
     at: &mut usize,
@@ -34,29 +41,31 @@ fn questions(
     list: &mut [u8; 4096],
     out: &mut [u8],
     used: &mut usize,
-) -> Ending
+) -> io::Result<Ending>
     requires { (end.old ≤ 65536) × (n ≤ 100000) }
 {
     for q in 0..n {
-        let t = question::answer(ahead, at, end, sheet, list, out, used);
+        let t = question::answer(input, ahead, at, end, sheet, list, out, used)?;
         match t {
             Turn::Answered => {}
-            Turn::Cut => return Ending::Cut(q + 1),
-            Turn::Malformed => return Ending::Malformed(q + 1),
+            Turn::Cut => return Ok(Ending::Cut(q + 1)),
+            Turn::Malformed => return Ok(Ending::Malformed(q + 1)),
         }
         if text::is_due(out, *used) {
-            flush(out, used);
+            flush(rt, out, used)?;
         }
     }
-    let g = byte(ahead, at, end);
+    let g = byte(input, ahead, at, end)?;
     match g {
-        Got::End => Ending::Whole,
-        Got::Byte(_) => Ending::Malformed(n + 1),
+        Got::End => Ok(Ending::Whole),
+        Got::Byte(_) => Ok(Ending::Malformed(n + 1)),
     }
 }
 
 // The whole stream: the number of questions, and the questions.
 fn stream(
+    rt: &impl Print,
+    input: &mut impl Read,
     ahead: &mut [u8; 65536],
     at: &mut usize,
     end: &mut usize,
@@ -64,16 +73,16 @@ fn stream(
     list: &mut [u8; 4096],
     out: &mut [u8],
     used: &mut usize,
-) -> Ending
+) -> io::Result<Ending>
     requires { end.old ≤ 65536 }
 {
-    let Number::Is(n) = double_word(ahead, at, end) else {
-        return Ending::Cut(0);
+    let Number::Is(n) = double_word(input, ahead, at, end)? else {
+        return Ok(Ending::Cut(0));
     };
     if 100000 < n {
-        return Ending::Malformed(0);
+        return Ok(Ending::Malformed(0));
     }
-    questions(n, ahead, at, end, sheet, list, out, used)
+    questions(rt, input, n, ahead, at, end, sheet, list, out, used)
 }
 
 fn put_fault(word: &[u8], question: usize, out: &mut [u8], used: &mut usize) {
@@ -92,7 +101,7 @@ fn put_ending(e: Ending, out: &mut [u8], used: &mut usize) {
     }
 }
 
-fn main() {
+fn main(rt: HostRuntime) -> io::Result<()> {
     let mut ahead = [0u8; 65536];
     let mut at = 0;
     let mut end = 0;
@@ -100,9 +109,17 @@ fn main() {
     let mut list = [0u8; 4096];
     let mut out = [0u8; 32768];
     let mut used = 0;
-    let e = stream(
-        &mut ahead, &mut at, &mut end, &mut sheet, &mut list, &mut out, &mut used,
+    let mut input = rt.stdin();
+    let ending = stream(
+        &rt, &mut input, &mut ahead, &mut at, &mut end, &mut sheet, &mut list, &mut out, &mut used,
     );
-    put_ending(e, &mut out, &mut used);
-    flush(&out, &mut used);
+    match ending {
+        Ok(e) => put_ending(e, &mut out, &mut used),
+        Err(e) => {
+            // The questions that were answered have their lines.
+            flush(&rt, &out, &mut used)?;
+            return Err(e);
+        }
+    }
+    flush(&rt, &out, &mut used)
 }

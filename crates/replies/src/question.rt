@@ -3,6 +3,8 @@ ghost use Rattle.std.specs.Prelude.{◌≤◌, length};
 
 use crate::input::{Got, Number, byte, fill, word};
 use answer_lines::{buffers, judging, reading, walking};
+use std::io;
+use std::io::Read;
 use text::put;
 
 // How a question ended: with its line, or by a stream that stops short or says what no stream may say.
@@ -33,14 +35,20 @@ fn four_length(kind: u8) -> usize
 }
 
 // The length of a part that is due; another part is empty.
-fn length_if(due: bool, ahead: &mut [u8; 65536], at: &mut usize, end: &mut usize) -> Number
+fn length_if(
+    input: &mut impl Read,
+    due: bool,
+    ahead: &mut [u8; 65536],
+    at: &mut usize,
+    end: &mut usize,
+) -> io::Result<Number>
     requires { end.old ≤ 65536 }
     ensures { end.new ≤ 65536 }
 {
     if due {
-        return word(ahead, at, end);
+        return word(input, ahead, at, end);
     }
-    Number::Is(0)
+    Ok(Number::Is(0))
 }
 
 fn put_answer(
@@ -79,6 +87,7 @@ fn put_line(
 
 // The parts, n, m and k bytes long, and the line.
 fn answer_parts(
+    input: &mut impl Read,
     kind: u8,
     n: usize,
     m: usize,
@@ -90,35 +99,36 @@ fn answer_parts(
     list: &mut [u8; 4096],
     out: &mut [u8],
     used: &mut usize,
-) -> Turn
+) -> io::Result<Turn>
     requires { end.old ≤ 65536 }
     ensures { end.new ≤ 65536 }
 {
     let mut four = [0u8; 4];
     if 4096 < n {
-        return Turn::Malformed;
+        return Ok(Turn::Malformed);
     }
     if 4096 < m {
-        return Turn::Malformed;
+        return Ok(Turn::Malformed);
     }
     if k != four_length(kind) {
-        return Turn::Malformed;
+        return Ok(Turn::Malformed);
     }
-    if !fill(ahead, at, end, sheet, n) {
-        return Turn::Cut;
+    if !fill(input, ahead, at, end, sheet, n)? {
+        return Ok(Turn::Cut);
     }
-    if !fill(ahead, at, end, list, m) {
-        return Turn::Cut;
+    if !fill(input, ahead, at, end, list, m)? {
+        return Ok(Turn::Cut);
     }
-    if !fill(ahead, at, end, &mut four, k) {
-        return Turn::Cut;
+    if !fill(input, ahead, at, end, &mut four, k)? {
+        return Ok(Turn::Cut);
     }
     put_line(kind, sheet, n, list, m, &four, out, used);
-    Turn::Answered
+    Ok(Turn::Answered)
 }
 
 // The next question of the stream.
 pub fn answer(
+    input: &mut impl Read,
     ahead: &mut [u8; 65536],
     at: &mut usize,
     end: &mut usize,
@@ -126,25 +136,25 @@ pub fn answer(
     list: &mut [u8; 4096],
     out: &mut [u8],
     used: &mut usize,
-) -> Turn
+) -> io::Result<Turn>
     requires { end.old ≤ 65536 }
     ensures { end.new ≤ 65536 }
 {
-    let Got::Byte(kind) = byte(ahead, at, end) else {
-        return Turn::Cut;
+    let Got::Byte(kind) = byte(input, ahead, at, end)? else {
+        return Ok(Turn::Cut);
     };
     let parts = parts_of(kind);
     if parts == 0 {
-        return Turn::Malformed;
+        return Ok(Turn::Malformed);
     }
-    let Number::Is(n) = word(ahead, at, end) else {
-        return Turn::Cut;
+    let Number::Is(n) = word(input, ahead, at, end)? else {
+        return Ok(Turn::Cut);
     };
-    let Number::Is(m) = length_if(1 < parts, ahead, at, end) else {
-        return Turn::Cut;
+    let Number::Is(m) = length_if(input, 1 < parts, ahead, at, end)? else {
+        return Ok(Turn::Cut);
     };
-    let Number::Is(k) = length_if(2 < parts, ahead, at, end) else {
-        return Turn::Cut;
+    let Number::Is(k) = length_if(input, 2 < parts, ahead, at, end)? else {
+        return Ok(Turn::Cut);
     };
-    answer_parts(kind, n, m, k, ahead, at, end, sheet, list, out, used)
+    answer_parts(input, kind, n, m, k, ahead, at, end, sheet, list, out, used)
 }
