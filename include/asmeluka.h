@@ -9,9 +9,9 @@
  * weaker in one case: where a job below SSI overwrites a row that an SSI job has read, a later overwrite by another SSI
  * job goes unnoticed (README.md, "What this does not promise").
  *
- * What the library needs: memcpy and memset; the SSE2 registers, which an interrupt handler that calls it must save; at
- * most 8 KiB of stack (measured with an older kit, docs/FIGURES.md). It has no data, takes no memory and keeps nothing
- * between calls.
+ * What the library needs: memcpy and memset; a processor of the level x86-64-v2 (SSE4.2) and its SSE registers, which an
+ * interrupt handler that calls it must save; at most 8,512 bytes of stack (measured, docs/FIGURES.md). It has no data,
+ * takes no memory and keeps nothing between calls.
  *
  * What the caller keeps, since no proof sees it:
  *   - An address is good for as many bytes as the length beside it says, `found` for PLANNER_FOUND bytes. No address is

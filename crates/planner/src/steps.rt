@@ -10,6 +10,7 @@ use walk::four::{Found, Four};
 use walk::shown::show;
 
 // The first danger above the four numbers with the chain shown, or the end.
+#[inline(never)]
 pub fn next_of(
     jobs: usize,
     kind: &[u8; 512],

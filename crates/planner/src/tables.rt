@@ -13,6 +13,7 @@ use crate::steps::next_of;
 use walk::four::Four;
 
 // Whether the jobs in the arrays are robust against the levels.
+#[inline(never)]
 pub fn is_robust<'a>(
     jobs: usize,
     objects: usize,
@@ -44,6 +45,7 @@ pub fn is_robust<'a>(
 }
 
 // The first danger above the four numbers with the chain shown, or the end.
+#[inline(never)]
 pub fn first_above<'a>(
     jobs: usize,
     objects: usize,
@@ -79,6 +81,7 @@ pub fn first_above<'a>(
 }
 
 // The lowest levels of the jobs in the arrays, to the first bytes of `answer`; the number asked.
+#[inline(never)]
 pub fn find_lowest<'a>(
     jobs: usize,
     objects: usize,

@@ -82,6 +82,7 @@ fn is_split(
 }
 
 // Robust: no job is the split job of a danger.
+#[inline(never)]
 pub fn is_robust(
     jobs: usize,
     kind: &[u8; 512],

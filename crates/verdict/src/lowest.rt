@@ -90,6 +90,7 @@ fn above_rc(level: u8) -> u32
 }
 
 // The lowest levels go to the first places of `answer`, and the number asked is the result.
+#[inline(never)]
 pub fn find_lowest(
     jobs: usize,
     kind: &[u8; 512],
