@@ -58,8 +58,8 @@ module _ (clash_of : List ℕ) (shut first last : ℕ) where
   no_hit none j = (λ e. absurd (omega (arith, bit_none j)), λ h. absurd (elim none [ inl e ↦ omega (arith, hit_first j h) | inr e ↦ omega (arith, hit_last j h) ]))
 
   -- the jobs of both sets, the last ones that a spread from first jobs alone reaches, and the first ones from last jobs alone
-  module _ (from_First from_last reach_first reach_last lasts firsts pairs ends all : ℕ)
-      (in_from_first : (k : ℕ) → bit from_First k ≡ bit first k - bit last k) (first_spread : Joined clash_of shut from_First reach_first) (in_lasts : (k : ℕ) → bit lasts k ≡ min (bit reach_first k) (bit last k))
+  module _ (from_first from_last reach_first reach_last lasts firsts pairs ends all : ℕ)
+      (in_from_first : (k : ℕ) → bit from_first k ≡ bit first k - bit last k) (first_spread : Joined clash_of shut from_first reach_first) (in_lasts : (k : ℕ) → bit lasts k ≡ min (bit reach_first k) (bit last k))
       (in_from_last : (k : ℕ) → bit from_last k ≡ bit last k - bit first k) (last_spread : Joined clash_of shut from_last reach_last) (in_firsts : (k : ℕ) → bit firsts k ≡ min (bit reach_last k) (bit first k))
       (in_pairs : (k : ℕ) → bit pairs k ≡ min (bit first k) (bit last k)) (in_ends : (k : ℕ) → bit ends k ≡ max (bit lasts k) (bit firsts k)) (in_all : (k : ℕ) → bit all k ≡ max (bit pairs k) (bit ends k)) where
     pub hit_means : (j : ℕ) → (bit all j ≡ 1) ↔ Hit clash_of shut first last j
