@@ -1,4 +1,5 @@
-// The lines that tell the answers, without their line feeds (docs/REPLIES.md, "The lines").
+// The lines that tell the answers, without their line feeds (docs/REPLIES.md, "The lines"). A text leaves out what has no room, so no
+// `write!` to one fails.
 #![tactic(auto)]
 
 pub mod buffers;
@@ -6,18 +7,9 @@ pub mod judging;
 pub mod reading;
 pub mod walking;
 
-ghost use Rattle.std.specs.Prelude.{◌<◌, ◌≡◌};
-
 use sheet::Refusal;
+use text::Text;
 
-// A byte as a number.
-pub fn wide(x: u8) -> usize
-    ensures { (result ≡ x) × (result < 256) }
-{
-    x as usize
-}
-
-fn put_refusal(r: Refusal, out: &mut [u8], used: &mut usize) {
-    let reason = r.reason;
-    text::lines::put_refusal(out, used, sheet::number(reason), r.place);
+fn put_refusal(r: Refusal, out: &mut Text<'_>) {
+    out.put_refusal(r.reason.into(), r.place);
 }

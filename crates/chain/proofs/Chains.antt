@@ -1,13 +1,13 @@
 -- The chain built job by job down the layers, and that it is the best path.
-use mathlib.Core.Path.{◌≡◌, refl, ap, subst, ◌∙◌}
+use mathlib.Core.Path.{◌≡◌, refl, ap, subst}
 use mathlib.Core.Logic.{inl, inr}
-use mathlib.Core.List.{List, [], ◌∷◌, ◌++◌, map}
+use mathlib.Core.List.{List, [], ◌∷◌}
 use Prim.Native.Nat.{ℕ, zero, suc, ◌+◌, ◌-◌, ◌<◌, ◌≤◌, min}
 use native.Mathlib.Nat.{eq-zero-or-pos}
 use native.Mathlib.Numerals.{add-one}
 use native.Mathlib.Omega.{arith}
-use lib.ListN.{length, get_or, set, drop, length-set, length-map}
-use lib.Seq.{sets-eq}
+use lib.ListN.{length, get_or}
+use Rattle.std.specs.Prelude.{Some, None}
 use Rattle.jobset.specs.Jobset.{bit, Lowest}
 use Rattle.jobset.specs.JobsetLaws.{bit_lt, member_pos}
 use Rattle.theory.specs.Reach.{Best as Row}
@@ -15,13 +15,13 @@ use Rattle.theory.proofs.ReachLaws.{through_links, path_links}
 use Rattle.chain.specs.Paths.{Edge, Open, Shows}
 use Rattle.chain.proofs.PathLaws.{path_row}
 use Rattle.chain.proofs.BestLaws.{lowest_best}
-use Rattle.chain.specs.Layers.{Way, Leads, Far, Layer, Fewest, Counted, Into, Down, Steps, Ready, Built}
+use Rattle.chain.specs.Layers.{Way, Leads, Far, Layer, Fewest, Into, Down, Steps, Ready, Built}
 
 module _ (clash layers : List ℕ) where
   -- ---- one job
   module _ (from n meet : ℕ) (is_meet : (k : ℕ) → bit meet k ≡ min (bit (get_or clash from 0) k) (bit (get_or layers n 0) k)) where
-    pub some_next : (left at : ℕ) (chain : List ℕ) → left ≡ suc n → Ready clash layers chain from left at → 0 < meet
-    some_next left at chain more r =
+    pub some_next : (left : ℕ) (chain : List ℕ) → left ≡ suc n → Ready clash layers chain from left → 0 < meet
+    some_next left chain more r =
         let j = (subst (λ (x : ℕ). Down clash layers x from) more r.down).0 in
         member_pos meet j.0 (omega (arith, is_meet j.0, j.1.0, j.1.1))
 
@@ -34,24 +34,20 @@ module _ (clash layers : List ℕ) where
       ],
     )
 
-    module _ (next left at job : ℕ) (chain : List ℕ) (low : Lowest 32 meet next) (more : left ≡ suc n) (named : job ≡ suc from) where
-      pub ready_next : Ready clash layers chain from left at → Ready clash layers (set chain at job) next n (at + 1)
+    module _ (next left place : ℕ) (chain rest : List ℕ) (low : Lowest 32 meet next) (more : left ≡ suc n) (parts : chain ≡ place ∷ rest) where
+      pub ready_next : Ready clash layers chain from left → Ready clash layers rest next n
       ready_next r = record {
-        tables = (r.tables.0, r.tables.1, length-set chain at job ∙ r.tables.2);
-        room = omega (arith, r.room);
+        room = (omega (arith, r.room.0), omega (arith, r.room.1, ap length parts));
         job = low.below;
         down = (subst (λ (x : ℕ). Down clash layers x from) more r.down).1 next (lowest_next next low).0;
       }
 
-      pub built_more : (after : List ℕ) → Built clash layers (set chain at job) after next n (at + 1) → Built clash layers chain after from left at
-      built_more after b = record {
+      pub built_more : (job : ℕ) (after : List ℕ) → job ≡ suc from → Built clash layers rest after next n → Built clash layers chain (job ∷ after) from left
+      built_more job after named b = record {
         chain = next ∷ b.chain;
         steps = rw more ((lowest_next next low).0, (lowest_next next low).1, b.steps);
-        jobs = rw (add-one at, named) at b.jobs;
+        jobs = rw (named, more, parts) (ap (λ (l : List ℕ). suc from ∷ l) b.jobs);
       }
-
-  pub built_end : (chain : List ℕ) (from left at job : ℕ) → left ≡ 0 → job ≡ suc from → Built clash layers chain (set chain at job) from left at
-  built_end chain from left at job e named = record { chain = []; steps = rw e tt; jobs = rw named refl }
 
   -- ---- down the layers of the goal
   module _ (shut goal : ℕ) where
@@ -97,29 +93,16 @@ module _ (clash : List ℕ) (shut first last : ℕ) where
   pub fewest_same : (layers : List ℕ) → first ≡ last → Fewest clash shut last first layers 0
   fewest_same layers same = record { room = omega arith; leads = same; least = λ m w. omega arith; stored = λ i h. absurd (omega arith) }
 
-  pub fewest_apart : (layers : List ℕ) (links : ℕ) → ¬ (links ≡ 0) → Counted clash shut last first layers links → Fewest clash shut last first layers links
-  fewest_apart layers zero some l = absurd (some refl)
-  fewest_apart layers (suc n) some l = l
-
-  pub shown_none : (layers before : List ℕ) (links : ℕ) → links ≡ 0 → Counted clash shut last first layers links → Shows clash shut first last before before 0
-  shown_none layers before zero e l =
+  pub shown_none : (before : List ℕ) → ((m : ℕ) → ¬ Leads clash shut last m first) → Shows clash shut first last before before None
+  shown_none before l =
       (λ c p. l (length c) (path_links (Edge clash) (Open shut) (◌≡ last) first c (path_row clash shut first last c p)), refl)
-  shown_none layers before (suc links) e l = absurd (omega arith)
 
   module _ (layers : List ℕ) (links : ℕ) (f : Fewest clash shut last first layers links) where
     pub fewest_down : Down clash layers links first
     fewest_down = leads_down clash layers shut last links first f.stored f.leads f.least
 
-    pub shown : (before after : List ℕ) → length before ≡ 32 → Built clash layers before after first links 0
-        → Shows clash shut first last before after (links + 1)
-    shown before after room b =
+    pub shown : (before after : List ℕ) → Built clash layers before after first links → Shows clash shut first last before after (Some (links + 1))
+    shown before after b =
         let row = steps_row clash layers shut last links first b.chain f.stored f.leads f.least b.steps in
         let best = lowest_best clash shut last first links b.chain row f.least in
-        let long : 0 + length (map suc (first ∷ b.chain)) ≡ suc links = omega (arith, length-map b.chain suc, best.0) in
-        rw add-one (record {
-          chain = b.chain;
-          long = best.0;
-          best = best.1;
-          jobs = b.jobs ∙ sets-eq (map suc (first ∷ b.chain)) before 0 (omega (arith, f.room, long))
-              ∙ ap (λ (n : ℕ). map suc (first ∷ b.chain) ++ drop n before) long;
-        })
+        rw add-one (record { chain = b.chain; long = best.0; best = best.1; jobs = b.jobs })

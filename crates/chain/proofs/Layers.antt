@@ -9,6 +9,7 @@ use native.Mathlib.Omega.{arith}
 use lib.Dec.{eqb}
 use lib.ListN.{length, get_or, set, length-set}
 use lib.Seq.{get_or-set_same, get_or-set_other}
+use Rattle.std.specs.Prelude.{Some, None}
 use Rattle.jobset.specs.Jobset.{bit, one, size}
 use Rattle.jobset.specs.JobsetLaws.{bit_lt, bit_none, digit, member_below, some_member, single_is, single_has}
 use Rattle.jobset.specs.SizeLaws.{size_le, size_some, size_apart, size_missing}
@@ -147,7 +148,7 @@ module _ (clash : List ℕ) (shut goal : ℕ) where
         omega (arith, g.grown, size_le 32 seen, size_some 32 layer m.0 m.1 m.2)
 
     -- no layer is left, so whatever has a way has one that is shorter
-    pub going_ends : (layers : List ℕ) (n seen layer : ℕ) → layer ≡ 0 → Going layers n seen layer → Counted clash shut goal first layers 0
+    pub going_ends : (layers : List ℕ) (n seen layer : ℕ) → layer ≡ 0 → Going layers n seen layer → Counted clash shut goal first layers None
     going_ends layers n seen layer z g = none
       where
         cut : (k m : ℕ) → Way clash shut goal m k → m ≤ n → (l : ℕ) × (l < n) × Way clash shut goal l k
@@ -163,6 +164,13 @@ module _ (clash : List ℕ) (shut goal : ℕ) where
         none : (m : ℕ) → ¬ Leads clash shut goal m first
         none zero w = omega (arith, g.more 0 w)
         none (suc m) w = let s = shorter m w.0 w.2 in omega (arith, g.more (suc s.0) (w.0, w.1, s.2), s.1)
+
+    -- after 32 layers none is left
+    pub going_full : (layers : List ℕ) (n seen layer : ℕ) → 32 ≤ n → Going layers n seen layer → Counted clash shut goal first layers None
+    going_full layers n seen layer h g = elim (eq-zero-or-pos layer) [
+      | inl z ↦ going_ends layers n seen layer z g
+      | inr p ↦ absurd (omega (arith, going_below layers n seen layer g p))
+    ]
 
     -- one turn of the loop: the layer is stored, and met with what `first` conflicts with
     module _ (layers : List ℕ) (n seen layer meet : ℕ) (g : Going layers n seen layer) (some : 0 < layer)
@@ -187,7 +195,7 @@ module _ (clash : List ℕ) (shut goal : ℕ) where
             late : (m : ℕ) → Way clash shut goal m first → m ≤ n → ⊥
             late m w h = omega (arith, g.more m (through_links (Edge clash) (Open shut) (◌≡ goal) m first w))
 
-        pub going_found : first < 32 → 0 < meet → meet < 2 ^ 32 → Counted clash shut goal first (set layers n layer) (n + 1)
+        pub going_found : first < 32 → 0 < meet → meet < 2 ^ 32 → Counted clash shut goal first (set layers n layer) (Some (n + 1))
         going_found small p f =
             let k = some_member 32 layer some g.small.1 in
             let m = some_member 32 meet p f in

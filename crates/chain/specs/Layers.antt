@@ -1,6 +1,5 @@
 -- The search back from the goal, layer by layer: what the functions behind `show` promise each other.
-use Rattle.std.specs.Prelude.{◌≡◌, List, [], ◌∷◌, map, ℕ, zero, suc, ◌+◌, ◌<◌, ◌≤◌, length, get_or}
-use Rattle.std.proofs.lemmas.List.Edits.{sets}
+use Rattle.std.specs.Prelude.{◌≡◌, List, [], ◌∷◌, ◌++◌, map, ℕ, zero, suc, ◌<◌, ◌≤◌, length, get_or, drop, Option, None, Some}
 use Rattle.jobset.specs.Jobset.{bit}
 use Rattle.theory.specs.Reach.{Through, Links}
 use Rattle.chain.specs.Paths.{Edge, Open, Both}
@@ -36,15 +35,14 @@ module _ (clash : List ℕ) (shut goal : ℕ) where
     pub least : (m : ℕ) → Leads m first → n ≤ m
     pub stored : (i : ℕ) → i < n → Layer i (get_or layers i 0)
 
-  -- the answer of the count of links: 0 where none lead to the goal
-  abbrev pub Counted : (first : ℕ) (layers : List ℕ) → ℕ → Type 0
-  Counted first layers zero = (m : ℕ) → ¬ Leads m first
-  Counted first layers (suc n) = Fewest first layers (suc n)
+  -- the answer of the count of links: none where none lead to the goal
+  abbrev pub Counted : (first : ℕ) (layers : List ℕ) → Option ℕ → Type 0
+  Counted first layers None = (m : ℕ) → ¬ Leads m first
+  Counted first layers (Some n) = Fewest first layers n
 
 -- what the count of links asks
-pub record Apart (clash : List ℕ) (first last : ℕ) (layers : List ℕ) : Type 0 where
+pub record Apart (clash : List ℕ) (first last : ℕ) : Type 0 where
   pub both : Both clash
-  pub tables : (length clash ≡ 32) × (length layers ≡ 32)
   pub jobs : (first < 32) × (last < 32)
   pub apart : ¬ (first ≡ last)
 
@@ -65,14 +63,13 @@ module _ (clash layers : List ℕ) where
   Steps (suc n) k [] = ⊥
   Steps (suc n) k (j ∷ c) = Into n k j × ((i : ℕ) → Into n k i → j ≤ i) × Steps n j c
 
-  pub record Ready (chain : List ℕ) (from left at : ℕ) : Type 0 where
-    pub tables : (length clash ≡ 32) × (length layers ≡ 32) × (length chain ≡ 32)
-    pub room : at + left < 32
+  pub record Ready (chain : List ℕ) (from left : ℕ) : Type 0 where
+    pub room : (left < 32) × (left < length chain)
     pub job : from < 32
     pub down : Down left from
 
-  -- the job and those after it are written from place `at` on, as job numbers from 1
-  pub record Built (before after : List ℕ) (from left at : ℕ) : Type 0 where
+  -- the job and those after it are written from the front, as job numbers from 1; what lies beyond keeps its value
+  pub record Built (before after : List ℕ) (from left : ℕ) : Type 0 where
     pub chain : List ℕ
     pub steps : Steps left from chain
-    pub jobs : after ≡ sets before at (map suc (from ∷ chain))
+    pub jobs : after ≡ map suc (from ∷ chain) ++ drop (suc left) before

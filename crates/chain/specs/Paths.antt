@@ -1,6 +1,6 @@
 -- Paths from job to job along conflicts, and the best of them (document 01, "The walk and the chain shown").
 -- `clash` has for each job the set of jobs that it conflicts with; `shut` is the set of jobs that no path goes through. Jobs count from 0.
-use Rattle.std.specs.Prelude.{◌≡◌, ◌⊎◌, List, [], ◌∷◌, ◌++◌, map, ℕ, zero, suc, ◌<◌, length, get_or, drop}
+use Rattle.std.specs.Prelude.{◌≡◌, ◌⊎◌, List, [], ◌∷◌, ◌++◌, map, ℕ, zero, suc, ◌<◌, length, get_or, drop, Option, None, Some}
 use Rattle.jobset.specs.Jobset.{bit}
 use Rattle.theory.specs.Shown.{Sooner}
 
@@ -37,7 +37,8 @@ pub record Written (clash : List ℕ) (shut first last : ℕ) (before after : Li
   pub best : Best clash shut first last chain
   pub jobs : after ≡ map suc (first ∷ chain) ++ drop (suc links) before
 
--- n jobs of the chain are shown; 0 where there is none, and then nothing is written
-abbrev pub Shows : (clash : List ℕ) (shut first last : ℕ) (before after : List ℕ) → ℕ → Type 0
-Shows clash shut first last before after zero = ((c : List ℕ) → ¬ Path clash shut first last c) × (after ≡ before)
-Shows clash shut first last before after (suc links) = Written clash shut first last before after links
+-- some n jobs of the chain are shown; none where no path leads there, and then nothing is written
+abbrev pub Shows : (clash : List ℕ) (shut first last : ℕ) (before after : List ℕ) → Option ℕ → Type 0
+Shows clash shut first last before after None = ((c : List ℕ) → ¬ Path clash shut first last c) × (after ≡ before)
+Shows clash shut first last before after (Some zero) = ⊥
+Shows clash shut first last before after (Some (suc links)) = Written clash shut first last before after links

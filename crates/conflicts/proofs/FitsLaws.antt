@@ -2,22 +2,23 @@
 -- Assumes nothing.
 use Prim.Native.Nat.{ℕ, ◌+◌, ◌*◌, ◌≤◌, ◌<◌}
 use mathlib.Core.Path.{◌≡◌, refl, sym, ap, ap₂, ◌∙◌}
-use mathlib.Core.Logic.{◌⊎◌, inl, inr, ◌↔◌}
+use mathlib.Core.Logic.{inl, inr, ◌↔◌}
 use mathlib.Core.Bool.{Bool, true, false, ◌&&◌, ◌||◌}
 use mathlib.Core.List.{List}
 use native.Mathlib.Nat.{eq-or-lt_of_le}
-use native.Mathlib.Decide.{dec_lt}
+use native.Mathlib.Decide.{ℕ_discrete, dec_lt}
 use native.Mathlib.Omega.{arith}
 use lib.Dec.{T, eqb, leb, leb→le, le→leb}
 use lib.ListN.{get_or}
 use borrow.Author.Tests.{eq-eqb, ne_eqb}
+use Rattle.std.specs.Prelude.{Option, Some, None, MatchOption}
 use Rattle.theory.specs.Find.{some?, meet?}
 use Rattle.theory.proofs.FindLaws.{and_left, and_right, and_both, or_left, or_right, or_cases}
 use Rattle.theory.specs.Danger.{Jobs, clash, job, alone}
 use Rattle.theory.specs.Form1.{form1}
 use Rattle.theory.specs.Shown.{PairAt}
 use Rattle.conflicts.specs.Laid.{op_at, Laid}
-use Rattle.conflicts.specs.Pairs.{fits?, Fits, Partner, Paired}
+use Rattle.conflicts.specs.Pairs.{fits?, Fits, Partner}
 use Rattle.conflicts.specs.PairsLaws.{fits_known}
 use Rattle.conflicts.proofs.RelationLaws.{and_none, some_none, alone_at}
 
@@ -35,24 +36,25 @@ module _ (any : Bool) (k l x y : ℕ) where
   unfolding fits?
   fits_apart n = simp (ne_eqb x y n, ne_eqb y x (λ e. n (sym e)), and_none)
 
-  pub fits_read : x ≡ y → k ≡ 1 → eqb l 2 ≡ fits? form1 any (k, x) (l, y)
+  pub fits_read : x ≡ y → k ≡ 1 → l ≡ 2 → true ≡ fits? form1 any (k, x) (l, y)
   unfolding fits?
-  fits_read e f = simp (f, eq-eqb x y e, and_none, and_all, or_again)
+  fits_read e f g = simp (f, g, eq-eqb x y e)
 
-  pub fits_neither : (k ≡ 1 → ⊥) → (k ≡ 2 → ⊥) → false ≡ fits? form1 any (k, x) (l, y)
+  pub fits_write : x ≡ y → k ≡ 2 → 1 ≤ l → l ≤ 2 → any ≡ fits? form1 any (k, x) (l, y)
   unfolding fits?
-  fits_neither n m = simp (ne_eqb k 1 n, ne_eqb k 2 m, and_none)
-
-  pub fits_write : x ≡ y → k ≡ 2 → (l ≡ 1) ⊎ (l ≡ 2) → any ≡ fits? form1 any (k, x) (l, y)
-  unfolding fits?
-  fits_write e f g = elim g [
+  fits_write e f low high = elim (eq-or-lt_of_le {n = l} {m = 2} high) [
     | inl h ↦ simp (f, h, eq-eqb x y e, eq-eqb y x (sym e), and_all)
-    | inr h ↦ simp (f, h, eq-eqb x y e, eq-eqb y x (sym e), and_all)
+    | inr h ↦ (let one : l ≡ 1 = omega arith in simp (f, one, eq-eqb x y e, eq-eqb y x (sym e), and_all))
   ]
 
-  pub fits_over_none : k ≡ 2 → (l ≡ 1 → ⊥) → (l ≡ 2 → ⊥) → false ≡ fits? form1 any (k, x) (l, y)
+  pub fits_none : (k ≡ 1 → l ≡ 2 → ⊥) → (k ≡ 2 → 1 ≤ l → l ≤ 2 → ⊥) → false ≡ fits? form1 any (k, x) (l, y)
   unfolding fits?
-  fits_over_none f n m = simp (f, ne_eqb l 1 n, ne_eqb l 2 m, and_none)
+  fits_none n m = cases (ℕ_discrete k 1) (ℕ_discrete k 2)
+    where
+      cases : Dec (k ≡ 1) → Dec (k ≡ 2) → false ≡ fits? form1 any (k, x) (l, y)
+      cases (yes e) d = simp (e, ne_eqb l 2 (n e), and_none)
+      cases (no e) (yes d) = simp (d, ne_eqb l 1 (λ u. m d (omega (arith, u)) (omega (arith, u))), ne_eqb l 2 (λ u. m d (omega (arith, u)) (omega (arith, u))), and_none)
+      cases (no e) (no d) = simp (ne_eqb k 1 e, ne_eqb k 2 d, and_none)
 
 module _ (kind object : List ℕ) (js : Jobs form1) (laid : Laid kind object js) (i j : ℕ) where
   -- two operations by their entries, for a relation that fails where there is none
@@ -93,14 +95,18 @@ module _ (kind object : List ℕ) (js : Jobs form1) (laid : Laid kind object js)
           | inr s ↦ or_right (form1.rw x y) (leb any a && clash form1 x y) (and_both (leb any a) (clash form1 x y) (le→leb any a s.0) (rw clash_at at s.1))
         ]
 
+-- the first number below 16 that passes, or none where none does
+abbrev pub First : (ℕ → Bool) → Option ℕ → Type 0
+First p found = MatchOption found ((k : ℕ) → 0 ≤ k → k < 16 → p k ≡ false) (λ a. (0 ≤ a) × (a < 16) × (p a ≡ true) × ((k : ℕ) → 0 ≤ k → k < a → p k ≡ false))
+
 module _ (kind object : List ℕ) (i b j any : ℕ) where
   -- whether operation a of job j will do for operation b of job i, by their entries
   abbrev pub does? : ℕ → Bool
   does? a = fits? form1 (leb any a) (op_at kind object (16 * i + b)) (op_at kind object (16 * j + a))
 
   module _ (h : b < 16) (js : Jobs form1) (laid : Laid kind object js) where
-    pub partner_found : (a : ℕ) → a < 16 → does? a ≡ true → ((k : ℕ) → k < a → does? k ≡ false) → Partner (Fits form1 js any i j b) a
-    partner_found a l e f = inl (l, (fits_at kind object js laid i j any b a h l).0 (rw e tt), first)
+    partner_found : (a : ℕ) → a < 16 → does? a ≡ true → ((k : ℕ) → k < a → does? k ≡ false) → Partner (Fits form1 js any i j b) (Some a)
+    partner_found a l e f = (l, (fits_at kind object js laid i j any b a h l).0 (rw e tt), first)
       where
         first : (k : ℕ) → Fits form1 js any i j b k → a ≤ k
         first k p = cases (dec_lt k a)
@@ -109,31 +115,12 @@ module _ (kind object : List ℕ) (i b j any : ℕ) where
             cases (yes q) = absurd (rw (f k q) at ((fits_at kind object js laid i j any b k h (omega arith)).1 p))
             cases (no q) = omega arith
 
-    pub partner_none : ((k : ℕ) → k < 16 → does? k ≡ false) → Partner (Fits form1 js any i j b) 16
-    partner_none f = inr (
-      refl,
-      λ k p.
-          let l = (fits_known form1 js laid.short any i j b k p).1 in
-          rw (f k l) at ((fits_at kind object js laid i j any b k h l).1 p),
-    )
+    partner_none : ((k : ℕ) → k < 16 → does? k ≡ false) → Partner (Fits form1 js any i j b) None
+    partner_none f k p =
+        let l = (fits_known form1 js laid.short any i j b k p).1 in
+        rw (f k l) at ((fits_at kind object js laid i j any b k h l).1 p)
 
--- the lowest pair, from the lowest partners of the earlier operations in turn
-module _ (P : ℕ → ℕ → Type 0) where
-  pub no_partner : (b a : ℕ) → 16 ≤ a → Partner (P b) a → (k : ℕ) → ¬ P b k
-  no_partner b a l f = elim f [ inl q ↦ absurd (omega (arith, q.0)) | inr q ↦ q.1 ]
-
-  pub paired_found : (b a : ℕ) → b < 16 → a < 16 → Partner (P b) a → ((i j : ℕ) → i < b → ¬ P i j) → Paired P b a
-  paired_found b a h l f none = elim f [
-    | inl q ↦ inl (h, l, record { fits = q.1; lowest = λ i j p. cases i j p q.2 (dec_lt b i) })
-    | inr q ↦ absurd (omega (arith, q.0))
-  ]
-    where
-      cases : (i j : ℕ) → P i j → ((k : ℕ) → P b k → a ≤ k) → Dec (b < i) → (b < i) ⊎ ((b ≡ i) × (a ≤ j))
-      cases i j p least (yes q) = inl q
-      cases i j p least (no q) = elim (eq-or-lt_of_le {n = i} {m = b} (omega arith)) [
-        | inl e ↦ inr (sym e, least j (rw e at p))
-        | inr u ↦ absurd (none i j u p)
-      ]
-
-  pub paired_none : ((i j : ℕ) → i < 16 → ¬ P i j) → ((i j : ℕ) → P i j → i < 16) → Paired P 16 16
-  paired_none none known = inr (refl, refl, λ i j p. none i j (known i j p) p)
+    -- the first number that passes the test of the entries is the lowest that will do
+    pub first_partner : (found : Option ℕ) → First does? found → Partner (Fits form1 js any i j b) found
+    first_partner (Some a) f = partner_found a f.1 f.2 (λ k h. f.3 k (omega arith) h)
+    first_partner None f = partner_none (λ k h. f k (omega arith) h)

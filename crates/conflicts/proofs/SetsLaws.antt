@@ -1,15 +1,12 @@
 -- The sets of jobs that a job conflicts with, entry by entry of the arrays.
 -- Assumes nothing.
-use Prim.Native.Nat.{ℕ, zero, suc, ◌+◌, ◌*◌, ◌-◌, ◌<◌, max}
+use Prim.Native.Nat.{ℕ, zero, suc, ◌+◌, ◌*◌, ◌-◌, max}
 use mathlib.Core.Path.{◌≡◌, refl, sym, ap, ◌∙◌}
-use mathlib.Core.Logic.{inl, inr}
 use mathlib.Core.Bool.{Bool, true, false, not, ◌&&◌}
 use mathlib.Core.List.{List}
-use native.Mathlib.Nat.{eq-or-lt_of_le}
 use native.Mathlib.Omega.{arith}
 use lib.Dec.{eqb}
-use lib.ListN.{get_or, set, replicate, length-set, length-replicate}
-use lib.Seq.{get_or-set_same, get_or-set_other}
+use lib.ListN.{get_or, replicate, length-replicate}
 use Rattle.jobset.specs.Jobset.{bit, one}
 use Rattle.conflicts.specs.Sets.{Has, over}
 use Rattle.conflicts.specs.Found.{among, in?, Filled, Over, Turned, Any}
@@ -25,15 +22,9 @@ module _ (P : ℕ → ℕ → Type 0) (sets : List ℕ) where
   pub filled_none : sets ≡ replicate 32 0 → Filled 0 P sets
   filled_none e = rw e (record { as_long = length-replicate {A = ℕ} 32 0; done = λ j h. absurd (omega arith); rest = λ j h. zeros 32 j })
 
-  pub filled_more : (n v : ℕ) → n < 32 → Filled n P sets → P n v → Filled (n + 1) P (set sets n v)
-  filled_more n v b f p = record {
-    as_long = length-set sets n v ∙ f.as_long;
-    done = λ j h. elim (eq-or-lt_of_le {n = j} {m = n} (omega arith)) [
-      | inl e ↦ rw (e, get_or-set_same sets n v 0 (omega (arith, f.as_long))) p
-      | inr l ↦ rw (get_or-set_other sets n j v 0 (λ e. omega arith)) (f.done j l)
-    ];
-    rest = λ j h. get_or-set_other sets n j v 0 (λ e. omega arith) ∙ f.rest j (omega arith);
-  }
+-- the same by a weaker test of each entry
+pub filled_as : (P Q : ℕ → ℕ → Type 0) (n : ℕ) (sets : List ℕ) → ((j m : ℕ) → P j m → Q j m) → Filled n P sets → Filled n Q sets
+filled_as P Q n sets f p = record { as_long = p.as_long; done = λ j h. f j _ (p.done j h); rest = p.rest }
 
 one_less : (p q : Bool) → one p - one q ≡ one (not q && p)
 unfolding one

@@ -68,9 +68,6 @@ module _ (kind object : List ℕ) (from : ℕ) where
           (has_skip (write? kind object (from + t)) i _ (g.jobs t q) (no_write kind object (from + t) i (λ u w. d (omega arith))))
 
 module _ (object seen : List ℕ) (from : ℕ) (old : List ℕ) where
-  pub handed_none : Handed object seen 0 from old old
-  handed_none = record { as_long = refl; inside = λ i s h. absurd (omega arith); outside = λ i h. refl }
-
   pub handed_skip : (n : ℕ) (new : List ℕ) → Handed object seen n from old new
       → ((s : ℕ) → s < 512 → get_or object n 0 ≡ from + s → ⊥) → Handed object seen (n + 1) from old new
   handed_skip n new d f = record {

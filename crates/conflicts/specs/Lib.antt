@@ -1,4 +1,5 @@
 pub mod Sets
+pub mod SetsOf
 pub mod SetsFound
 pub mod Laid
 pub mod LaidLaws

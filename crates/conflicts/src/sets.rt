@@ -1,96 +1,121 @@
 // For each job the jobs with which it is ww, rw and wr, and those with which it conflicts.
-ghost use Rattle.std.specs.Prelude.{◌≡◌, ◌≤◌, ◌<◌, replicate};
-ghost use Rattle.conflicts.specs.Sets as sets;
+ghost use Rattle.std.specs.Prelude.{◌≡◌, ℕ, ◌≤◌, ◌<◌, replicate};
+ghost use Rattle.conflicts.specs.Sets.{over};
 ghost use Rattle.conflicts.specs.SetsFound.{SetsFound};
 ghost use Rattle.conflicts.specs.Laid.{Stands};
 ghost use Rattle.conflicts.specs.Found.{Filled, Over, Turned, Any};
 
 use crate::writers::find_writers;
+use jobset::{has, single, union, with, without};
+use sheet::Table;
 
-// The jobs that write over the operation at i, if it is of kind k: those with which a read (1) is rw, a write (2) ww.
-pub fn over(kind: &[u8; 512], writers: &[u32; 512], i: usize, k: u8) -> u32
-    requires { i < 512 }
-    ensures { result ≡ sets.over kind.now writers.now i k }
-{
-    if kind[i] == k { writers[i] } else { 0 }
+// Job j has entry j of the last four arrays, its operation o entry 16 * j + o of `writers`, with the jobs that write the operation's object.
+#[derive(Drop)]
+pub struct Sets<'a> {
+    pub table: &'a Table,
+    pub writers: [u32; 512],
+    pub ww: [u32; 32],
+    pub rw: [u32; 32],
+    pub wr: [u32; 32],
+    pub clash: [u32; 32],
 }
 
-// The jobs other than j that write over one of job j's operations of kind k.
-fn over_job(kind: &[u8; 512], writers: &[u32; 512], j: usize, k: u8) -> u32
-    requires { j < 32 }
-    ensures { Over kind.now writers.now k j result }
-{
-    let mut all = 0;
-    for o in 0..16 {
-        all = jobset::union(all, over(kind, writers, 16 * j + o, k));
-    }
-    jobset::without(all, jobset::single(j as u32))
-}
-
-// The same for each of the first `jobs` jobs.
-fn fill_over(jobs: usize, kind: &[u8; 512], writers: &[u32; 512], k: u8, sets: &mut [u32; 32])
-    requires { (jobs ≤ 32) × (sets.old ≡ replicate 32 0) }
-    ensures { Filled jobs (Over kind.now writers.now k) sets.new }
-{
-    for j in 0..jobs {
-        sets[j] = over_job(kind, writers, j, k);
-    }
-}
-
-// Those of the first `jobs` jobs whose set has job j.
-fn turned(jobs: usize, sets: &[u32; 32], j: usize) -> u32
-    requires { (jobs ≤ 32) × (j < 32) }
-    ensures { Turned jobs sets.now j result }
-{
-    let mut all = 0;
-    for k in 0..jobs {
-        if jobset::has(sets[k], j as u32) {
-            all = jobset::with(all, k as u32);
+impl Sets<'_> {
+    // The jobs that write over the operation at i, if it is of kind k: those with which a read (1) is rw, a write (2) ww.
+    pub fn over(&self, i: usize, k: u8) -> u32
+        requires { i < 512 }
+        ensures { result ≡ over self.now.table.now.kind self.now.writers i k }
+    {
+        if self.table.kind[i] == k {
+            self.writers[i]
+        } else {
+            0
         }
     }
-    all
-}
 
-// wr is rw turned round.
-fn fill_turned(jobs: usize, rw: &[u32; 32], wr: &mut [u32; 32])
-    requires { (jobs ≤ 32) × (wr.old ≡ replicate 32 0) }
-    ensures { Filled jobs (Turned jobs rw.now) wr.new }
-{
-    for j in 0..jobs {
-        wr[j] = turned(jobs, rw, j);
+    // The jobs other than j that write over one of job j's operations of kind k.
+    fn over_job(&self, j: usize, k: u8) -> u32
+        requires { j < 32 }
+        ensures { Over self.now.table.now.kind self.now.writers k j result }
+    {
+        let mut all = 0;
+        for o in 0..16 {
+            all = union(all, self.over(16 * j + o, k));
+        }
+        without(all, single(j as u32))
+    }
+
+    // Those of the table's jobs that are rw with job j: wr is rw turned round.
+    fn turned(&self, j: usize) -> u32
+        requires { (self.now.table.now.jobs ≤ 32) × (j < 32) }
+        ensures { Turned self.now.table.now.jobs self.now.rw j result }
+    {
+        let mut all = 0;
+        for (k, rw) in self.rw[..self.table.jobs].iter().enumerate() {
+            if has(*rw, j as u32) {
+                all = with(all, k as u32);
+            }
+        }
+        all
+    }
+
+    // A conflict is any of the three.
+    fn any(&self, j: usize) -> u32
+        requires { j < 32 }
+        ensures { Any self.now.ww self.now.wr self.now.rw j result }
+    {
+        union(union(self.ww[j], self.wr[j]), self.rw[j])
     }
 }
 
-// A conflict is any of the three.
-fn fill_any(jobs: usize, ww: &[u32; 32], wr: &[u32; 32], rw: &[u32; 32], clash: &mut [u32; 32])
-    requires { (jobs ≤ 32) × (clash.old ≡ replicate 32 0) }
-    ensures { Filled jobs (Any ww.now wr.now rw.now) clash.new }
+// The set of each of the first `jobs` jobs, and no job for the others. A loop, since of what `array::from_fn` makes this was not proved.
+fn fill<F: Fn(usize) -> u32>(jobs: usize, set: F) -> [u32; 32]
+    requires jobs_bound { jobs ≤ 32 }
+    requires calls { (j : ℕ) → j < jobs → F.pre set j }
+    ensures { Filled jobs (F.post set) result }
 {
+    let mut sets = [0u32; 32];
     for j in 0..jobs {
-        clash[j] = jobset::union(jobset::union(ww[j], wr[j]), rw[j]);
+        sets[j] = set(j);
     }
+    sets
 }
 
-// All sets of the jobs that stand in the arrays.
-pub fn find(
-    jobs: usize,
-    objects: usize,
-    kind: &[u8; 512],
-    object: &[u16; 512],
-    writers: &mut [u32; 512],
-    ww: &mut [u32; 32],
-    rw: &mut [u32; 32],
-    wr: &mut [u32; 32],
-    clash: &mut [u32; 32],
-)
-    requires jobs_bound { (jobs ≤ 32) × (objects ≤ 4096) × Stands jobs objects kind.now object.now × (writers.old ≡ replicate 512 0) }
-    requires zeros { (ww.old ≡ replicate 32 0) × (rw.old ≡ replicate 32 0) × (wr.old ≡ replicate 32 0) × (clash.old ≡ replicate 32 0) }
-    ensures { (k : Stands jobs objects kind.now object.now)
-        → SetsFound k.js kind.now object.now writers.new ww.new rw.new wr.new clash.new }
+// All sets of the jobs that stand in the table, in place of none.
+#[inline(never)]
+fn work_out(sets: &mut Sets)
+    requires jobs_bound { (sets.old.table.now.jobs ≤ 32) × (sets.old.table.now.objects ≤ 4096) × (sets.old.writers ≡ replicate 512 0) }
+    requires stands { Stands sets.old.table.now.jobs sets.old.table.now.objects sets.old.table.now.kind sets.old.table.now.object }
+    ensures same { sets.new.table ≡ sets.old.table }
+    ensures found { (k : Stands sets.old.table.now.jobs sets.old.table.now.objects sets.old.table.now.kind sets.old.table.now.object)
+        → SetsFound k.js sets.new.table.now.kind sets.new.table.now.object sets.new.writers sets.new.ww sets.new.rw sets.new.wr sets.new.clash }
 {
-    find_writers(jobs, objects, kind, object, writers);
-    fill_over(jobs, kind, writers, 2, ww);
-    fill_over(jobs, kind, writers, 1, rw);
-    fill_turned(jobs, rw, wr);
-    fill_any(jobs, ww, wr, rw, clash);
+    let table = sets.table;
+    find_writers(table, &mut sets.writers);
+    sets.ww = fill(table.jobs, |j| sets.over_job(j, 2));
+    sets.rw = fill(table.jobs, |j| sets.over_job(j, 1));
+    sets.wr = fill(table.jobs, |j| sets.turned(j));
+    sets.clash = fill(table.jobs, |j| sets.any(j));
+}
+
+// All sets of the jobs that stand in the table. Inlined, so that they stand once on the stack, where the caller keeps them.
+#[inline(always)]
+pub fn find<'a>(table: &'a Table) -> Sets<'a>
+    requires { (table.now.jobs ≤ 32)
+        × (table.now.objects ≤ 4096)
+        × Stands table.now.jobs table.now.objects table.now.kind table.now.object }
+    ensures same { result.table ≡ table.entry }
+    ensures found { (k : Stands table.now.jobs table.now.objects table.now.kind table.now.object)
+        → SetsFound k.js result.table.now.kind result.table.now.object result.writers result.ww result.rw result.wr result.clash }
+{
+    let mut sets = Sets {
+        table,
+        writers: [0u32; 512],
+        ww: [0u32; 32],
+        rw: [0u32; 32],
+        wr: [0u32; 32],
+        clash: [0u32; 32],
+    };
+    work_out(&mut sets);
+    sets
 }

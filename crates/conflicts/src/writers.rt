@@ -1,71 +1,59 @@
 // The jobs that write each operation's object, by an index over spans of 512 objects: no two operations are compared.
-ghost use Rattle.std.specs.Prelude.{◌≡◌, ◌*◌, ◌≤◌, ◌<◌, length, replicate};
+ghost use Rattle.std.specs.Prelude.{◌≡◌, ℕ, ◌+◌, ◌*◌, ◌≤◌, ◌<◌, length, replicate, MatchOption};
 ghost use Rattle.conflicts.specs.Found.{Gathered, Handed, WritesBelow, Written};
 
-// An object as a number.
-fn wide(x: u16) -> usize
-    ensures { (result ≡ x) × (result < 65536) }
+use jobset::with;
+use sheet::Table;
+
+// The place of an object in the span from `from` on, if it is in it.
+fn place(object: u16, from: usize) -> Option<usize>
+    ensures { MatchOption result ((s : ℕ) → s < 512 → ¬ object ≡ from + s) (λ s. (s < 512) × (object ≡ from + s)) }
 {
-    x as usize
+    let x = usize::from(object);
+    if from <= x && x - from < 512 {
+        Some(x - from)
+    } else {
+        None
+    }
 }
 
 // Gives `seen` the jobs that write each object of the span from `from` on, among the first `end` operations.
-fn gather(end: usize, kind: &[u8; 512], object: &[u16; 512], from: usize, seen: &mut [u32; 512])
+fn gather(end: usize, table: &Table, from: usize, seen: &mut [u32; 512])
     requires { (end ≤ 512) × (seen.old ≡ replicate 512 0) }
-    ensures { Gathered kind.now object.now end from seen.new }
+    ensures { Gathered table.now.kind table.now.object end from seen.new }
 {
+    // By index, since operation i is one of job i / 16: a `zip` with an `enumerate` round it would be no plainer.
     for i in 0..end {
-        if kind[i] == 2 {
-            let x = wide(object[i]);
-            if from <= x {
-                let s = x - from;
-                if s < 512 {
-                    seen[s] = jobset::with(seen[s], (i / 16) as u32);
-                }
+        if table.kind[i] == 2 {
+            if let Some(s) = place(table.object[i], from) {
+                seen[s] = with(seen[s], (i / 16) as u32);
             }
         }
     }
 }
 
 // Gives each of the first `end` operations on an object of the span its jobs.
-fn hand_out(
-    end: usize,
-    object: &[u16; 512],
-    from: usize,
-    seen: &[u32; 512],
-    writers: &mut [u32; 512],
-)
+fn hand_out(end: usize, table: &Table, from: usize, seen: &[u32; 512], writers: &mut [u32; 512])
     requires { (end ≤ 512) × (length writers.old ≡ 512) }
-    ensures { Handed object.now seen.now end from writers.old writers.new }
+    ensures { Handed table.now.object seen.now end from writers.old writers.new }
 {
+    // By index: nothing can be proved of what is written through an `iter_mut` that is zipped.
     for i in 0..end {
-        let x = wide(object[i]);
-        if from <= x {
-            let s = x - from;
-            if s < 512 {
-                writers[i] = seen[s];
-            }
+        if let Some(s) = place(table.object[i], from) {
+            writers[i] = seen[s];
         }
     }
 }
 
-// For each operation of the first `jobs` jobs the jobs that write its object, its own job too.
-pub fn find_writers(
-    jobs: usize,
-    objects: usize,
-    kind: &[u8; 512],
-    object: &[u16; 512],
-    writers: &mut [u32; 512],
-)
-    requires jobs_bound { (jobs ≤ 32) × (objects ≤ 4096) × (writers.old ≡ replicate 512 0) }
-    requires writes_below { WritesBelow objects kind.now object.now (16 * jobs) }
-    ensures { Written kind.now object.now (16 * jobs) writers.new }
+// For each operation of the table's jobs the jobs that write its object, its own job too.
+pub fn find_writers(table: &Table, writers: &mut [u32; 512])
+    requires jobs_bound { (table.now.jobs ≤ 32) × (table.now.objects ≤ 4096) × (writers.old ≡ replicate 512 0) }
+    requires writes_below { WritesBelow table.now.objects table.now.kind table.now.object (16 * table.now.jobs) }
+    ensures { Written table.now.kind table.now.object (16 * table.now.jobs) writers.new }
 {
-    let mut from = 0;
-    while from < objects {
+    for from in (0..table.objects).step_by(512) {
         let mut seen = [0u32; 512];
-        gather(16 * jobs, kind, object, from, &mut seen);
-        hand_out(16 * jobs, object, from, &seen, writers);
-        from += 512;
+        gather(16 * table.jobs, table, from, &mut seen);
+        hand_out(16 * table.jobs, table, from, &seen, writers);
     }
 }

@@ -1,35 +1,39 @@
 -- Laws of the checks of a list of levels and of an answer buffer.
 -- Assumes nothing.
-use Prim.Native.Nat.{ℕ, zero, suc, ◌+◌, ◌≤◌, ◌<◌}
+use Prim.Native.Nat.{ℕ, suc, ◌≤◌, ◌<◌}
 use mathlib.Core.Path.{◌≡◌, refl}
 use mathlib.Core.List.{List, [], ◌∷◌}
+use Rattle.std.specs.Prelude.{Option, Some, None, nat_lt, cond, Bool, true, false}
+use Rattle.std.specs.List.{position_from}
 use native.Mathlib.Numerals.{add-one}
 use native.Mathlib.Decide.{ℕ_discrete, dec_le}
 use native.Mathlib.Omega.{arith}
 use borrow.Author.Tests.{lt-ltb, le-ltb, eq-eqb, ne_eqb}
-use lib.ListN.{length, get_or, drop}
-use lib.Seq.{drop-cons}
-use Rattle.sheet.specs.Step.{ok, fault, refuse}
+use lib.ListN.{length}
+use Rattle.sheet.specs.Step.{Step, ok, fault, refuse}
 use Rattle.planner.specs.Checks.{none_above, levels_at, room_at}
 
-module _ (top : ℕ) (ls : List ℕ) (i : ℕ) where
-  pub above_here : i < length ls → top < get_or ls i 0 → none_above top i (drop i ls) ≡ fault 14 i
-  unfolding none_above refuse
-  above_here h l = rw (drop-cons ls i 0) (simp (lt-ltb _ _ l))
+-- the first level above top, the levels being counted from i
+module _ (i : ℕ) (rest : Step (Unit {0})) (later : Option ℕ) where
+  at_or_later : (p : ℕ) → (later ≡ Some p → rest ≡ fault 14 p) → (b : Bool) → cond b (Some i) later ≡ Some p → refuse b 14 i rest ≡ fault 14 p
+  unfolding refuse
+  at_or_later p h true e = let d : i ≡ p = cc in rw d refl
+  at_or_later p h false e = h e
 
-  pub above_later : i < length ls → get_or ls i 0 ≤ top → none_above top i (drop i ls) ≡ none_above top (i + 1) (drop (i + 1) ls)
-  unfolding none_above refuse
-  above_later h l = rw (add-one i, drop-cons ls i 0) (simp (le-ltb _ _ l))
+  not_at : (later ≡ None → rest ≡ ok tt) → (b : Bool) → cond b (Some i) later ≡ None → refuse b 14 i rest ≡ ok tt
+  unfolding refuse
+  not_at h true e = absurd (cc)
+  not_at h false e = h e
 
-drop_all : (ls : List ℕ) (n : ℕ) → length ls ≤ n → drop n ls ≡ []
-drop_all [] zero h = refl
-drop_all [] (suc n) h = refl
-drop_all (l ∷ ls) zero h = absurd (omega arith)
-drop_all (l ∷ ls) (suc n) h = drop_all ls n (omega arith)
-
-pub above_none : (top : ℕ) (ls : List ℕ) (i : ℕ) → length ls ≤ i → none_above top i (drop i ls) ≡ ok tt
+pub above_at : (top i : ℕ) (ls : List ℕ) (p : ℕ) → position_from (λ l. nat_lt top l) i ls ≡ Some p → none_above top i ls ≡ fault 14 p
 unfolding none_above
-above_none top ls i h = rw (drop_all ls i h)
+above_at top i [] p e = absurd (cc)
+above_at top i (l ∷ ls) p e = at_or_later i _ _ p (λ f. above_at top (suc i) ls p (rw (← add-one i) f)) (nat_lt top l) e
+
+pub above_none : (top i : ℕ) (ls : List ℕ) → position_from (λ l. nat_lt top l) i ls ≡ None → none_above top i ls ≡ ok tt
+unfolding none_above
+above_none top i [] e = refl
+above_none top i (l ∷ ls) e = not_at i _ _ (λ f. above_none top (suc i) ls (rw (← add-one i) f)) (nat_lt top l) e
 
 module _ (jobs : ℕ) (ls : List ℕ) where
   pub wrong_length : (length ls ≡ jobs → ⊥) → levels_at jobs ls ≡ fault 13 0

@@ -1,6 +1,6 @@
 -- What document 01 says of the pair that leaves T1 ("The walk and the chain shown"), of every answer of `next_danger` that shows a danger.
 -- Assumes nothing.
-use Rattle.std.specs.Prelude.{ℕ, suc, ◌-◌, ◌≡◌, List, [], ◌∷◌, ◌++◌, get_or}
+use Rattle.std.specs.Prelude.{ℕ, suc, ◌-◌, ◌≡◌, List, [], ◌∷◌, ◌++◌, get_or, Option, Some, Result, Ok}
 use Rattle.std.proofs.Common.{sym, ap, subst, ◌∙◌, arith}
 use Rattle.theory.specs.Danger.{Jobs, job}
 use Rattle.theory.specs.Form1.{form1}
@@ -12,6 +12,7 @@ use Rattle.sheet.specs.Step.{Step, ok, fault, next}
 use Rattle.sheet.specs.Sheet.{sheet_of}
 use Rattle.sheet.specs.Jobs.{jobs_of}
 use Rattle.sheet.specs.ReadLaws.{sheet_read}
+use Rattle.sheet.specs.declared.Refusal.{Refusal}
 use Rattle.sheet.specs.declared.Table.{Table}
 use Rattle.conflicts.specs.LaidLaws.{writes_once}
 use Rattle.walk.specs.Answers.{named}
@@ -19,8 +20,6 @@ use Rattle.walk.specs.ShownIn.{pair_row}
 use Rattle.walk.specs.declared.four.Four.{Four}
 use Rattle.planner.specs.Checks.{levels_at, sheet_with, with_levels}
 use Rattle.planner.specs.Questions.{Answers, Walks, walk_of, ChainBeside, Walked}
-use Rattle.planner.specs.declared.Walk.{Walk}
-use Rattle.planner.specs.declared.Walk.TheVariants as walk
 use Rattle.planner.specs.declared.WalkAnswer.{WalkAnswer}
 
 -- the first pair of a chain's, as it stands in the array
@@ -39,13 +38,13 @@ first js lv t1 b1 t2 rest (p ∷ ps) pairs beyond w e = record {
   leaves = rw w.0.fits.0 at w.0.fits;
 }
 
-module _ (s ls : List ℕ) (above : Four) (a : WalkAnswer) (h : Walked s ls above a) (t : Table) (read : sheet_of s ≡ ok t) (f : Four) (found : a.walk ≡ walk.Found f) where
+module _ (s ls : List ℕ) (above : Four) (a : WalkAnswer) (h : Walked s ls above a) (t : Table) (read : sheet_of s ≡ ok t) (f : Four) (found : a.walk ≡ Ok (Some f)) where
   abbrev Told : Step Table → Step theory.Answer → Type 0
   Told = Answers (λ t. Walks ls above a (jobs_of t))
 
   beside : ChainBeside (jobs_of t) ls (named f) a
   unfolding sheet_with next
-  beside = cases (levels_at t.jobs ls) (rw read at (subst (λ (w : Walk). Told (with_levels s ls) (walk_of w)) found h.outcome))
+  beside = cases (levels_at t.jobs ls) (rw read at (subst (λ (w : Result (Option Four) Refusal). Told (with_levels s ls) (walk_of w)) found h.outcome))
     where
       cases : (c : Step (Unit {0})) → Told (next c λ _. ok t) (ok (theory.found (named f))) → ChainBeside (jobs_of t) ls (named f) a
       cases (ok _) told = told.1

@@ -1,12 +1,14 @@
--- What is known of lent arrays: jobs that stand in them, and beside them the sets of jobs with which these conflict.
-use Rattle.std.specs.Prelude.{◌≡◌, List, ℕ, length}
+-- What is known of sets that are lent with their table: jobs that stand in the table, and that the sets are those of jobs with which
+-- these conflict.
+use Rattle.std.specs.Prelude.{◌≡◌, length}
 use Rattle.theory.specs.Danger.{Jobs}
 use Rattle.theory.specs.Form1.{form1}
 use Rattle.conflicts.specs.Laid.{Laid}
-use Rattle.conflicts.specs.Sets.{Sets}
+use Rattle.conflicts.specs.SetsOf.{SetsOf}
+use Rattle.conflicts.specs.declared.sets.Sets as declared
 
-pub record SetsStand (jobs : ℕ) (kind object writers ww rw wr clash : List ℕ) : Type 0 where
+pub record SetsStand (s : declared.Sets) : Type 0 where
   pub js : Jobs form1
-  pub size : length js ≡ jobs
-  pub laid : Laid kind object js
-  pub sets : Sets form1 js kind writers ww rw wr clash
+  pub size : length js ≡ s.table.now.jobs
+  pub laid : Laid s.table.now.kind s.table.now.object js
+  pub sets : SetsOf js s

@@ -6,11 +6,13 @@ pub mod rows;
 pub mod steps;
 mod tables;
 
-ghost use Rattle.std.specs.Prelude.{◌≡◌};
+ghost use Rattle.std.specs.Prelude.{◌≡◌, List, ℕ, length};
+ghost use Rattle.sheet.specs.Answer.{Answered};
+ghost use Rattle.planner.specs.Checks.{checked_with, with_levels, with_room};
 ghost use Rattle.planner.specs.Questions.{Judged, Walked, NoChain, LowestHanded, LevelsCopied};
 
-use levels::{Checked, check_levels, check_room};
-use sheet::{Reading, Refusal};
+use levels::{check_levels, check_room};
+use sheet::{ReadAnswer, Refusal};
 use walk::four::Four;
 
 // Whether a sheet is robust against a list of levels.
@@ -18,71 +20,57 @@ use walk::four::Four;
 pub enum Verdict {
     Robust,
     Dangerous,
-    Refused(Refusal),
 }
 
-// A step of the walk.
-#[derive(Clone, Copy)]
-pub enum Walk {
-    Found(Four),
-    End,
-    Refused(Refusal),
-}
-
-// The chain shown with a danger stands beside the enum, since an enum holds no array: the number of its jobs, the jobs T2 .. Tm, and
-// the pairs, the earlier job's operation first; zeros behind them, and nothing but zeros where no danger is found.
+// A step of the walk: a danger found, the end, or the refusal. The chain shown with a danger stands beside it, since an enum holds no
+// array: the number of its jobs, the jobs T2 .. Tm, and the pairs, the earlier job's operation first; zeros behind them, and nothing but
+// zeros where no danger is found.
 #[derive(Clone, Copy)]
 pub struct WalkAnswer {
-    pub walk: Walk,
+    pub walk: Result<Option<Four>, Refusal>,
     pub length: usize,
     pub chain: [u8; 32],
     pub pairs: [u8; 64],
 }
 
-// What a question answers that hands out levels in the answer buffer: the number asked with the lowest levels, the number of jobs with the
-// levels that the sheet itself names, or the refusal.
-#[derive(Clone, Copy)]
-pub enum Handed {
-    Number(u32),
-    Refused(Refusal),
+// The sheet's own faults, and then those of a list of levels that comes with it.
+fn check_with_levels(read: &ReadAnswer, levels: &[u8]) -> Result<(), Refusal>
+    ensures { (s : List ℕ) → Answered s read.now → checked_with read.now.table result ≡ with_levels s levels.now }
+{
+    read.reading?;
+    check_levels(read.table.jobs, levels)
+}
+
+// The sheet's own faults, and then that of an answer buffer of this length.
+fn check_with_room(read: &ReadAnswer, room: usize) -> Result<(), Refusal>
+    ensures { (s : List ℕ) → Answered s read.now → checked_with read.now.table result ≡ with_room s room }
+{
+    read.reading?;
+    check_room(read.table.jobs, room)
 }
 
 // Is the sheet robust against the levels?
-pub fn judge(sheet: &[u8], levels: &[u8]) -> Verdict
+pub fn judge(sheet: &[u8], levels: &[u8]) -> Result<Verdict, Refusal>
     ensures { Judged sheet.now levels.now result }
 {
-    let answer = sheet::read_sheet(sheet);
-    let reading = answer.reading;
-    if let Reading::Refused(r) = reading {
-        return Verdict::Refused(r);
-    }
-    let checked = check_levels(answer.table.jobs, levels);
-    if let Checked::Refused(r) = checked {
-        return Verdict::Refused(r);
-    }
-    let robust = tables::is_robust(
-        answer.table.jobs,
-        answer.table.objects,
-        &answer.table.kind,
-        &answer.table.object,
-        levels,
-    );
-    if robust {
-        Verdict::Robust
+    let read = sheet::read_sheet(sheet);
+    check_with_levels(&read, levels)?;
+    if tables::is_robust(&read.table, levels) {
+        Ok(Verdict::Robust)
     } else {
-        Verdict::Dangerous
+        Ok(Verdict::Dangerous)
     }
 }
 
 // No danger is shown.
-fn nothing_shown(walk: Walk) -> WalkAnswer
+fn nothing_shown(walk: Result<Option<Four>, Refusal>) -> WalkAnswer
     ensures { (result.walk ≡ walk) × NoChain result }
 {
     WalkAnswer {
-        walk: walk,
+        walk,
         length: 0,
-        chain: [0u8; 32],
-        pairs: [0u8; 64],
+        chain: [0; 32],
+        pairs: [0; 64],
     }
 }
 
@@ -90,63 +78,29 @@ fn nothing_shown(walk: Walk) -> WalkAnswer
 pub fn next_danger(sheet: &[u8], levels: &[u8], above: Four) -> WalkAnswer
     ensures { Walked sheet.now levels.now above result }
 {
-    let answer = sheet::read_sheet(sheet);
-    let reading = answer.reading;
-    if let Reading::Refused(r) = reading {
-        return nothing_shown(Walk::Refused(r));
+    let read = sheet::read_sheet(sheet);
+    if let Err(r) = check_with_levels(&read, levels) {
+        return nothing_shown(Err(r));
     }
-    let checked = check_levels(answer.table.jobs, levels);
-    if let Checked::Refused(r) = checked {
-        return nothing_shown(Walk::Refused(r));
-    }
-    tables::first_above(
-        answer.table.jobs,
-        answer.table.objects,
-        &answer.table.kind,
-        &answer.table.object,
-        levels,
-        above,
-    )
+    tables::first_above(&read.table, levels, above)
 }
 
 // Which are the lowest levels, and how many verdicts does the rule ask for?
-pub fn lowest(sheet: &[u8], answer: &mut [u8]) -> Handed
+pub fn lowest(sheet: &[u8], answer: &mut [u8]) -> Result<u32, Refusal>
     ensures { LowestHanded sheet.now answer.old answer.new result }
 {
     let read = sheet::read_sheet(sheet);
-    let reading = read.reading;
-    if let Reading::Refused(r) = reading {
-        return Handed::Refused(r);
-    }
-    let jobs = read.table.jobs;
-    let checked = check_room(jobs, answer.len());
-    if let Checked::Refused(r) = checked {
-        return Handed::Refused(r);
-    }
-    Handed::Number(tables::find_lowest(
-        jobs,
-        read.table.objects,
-        &read.table.kind,
-        &read.table.object,
-        answer,
-    ))
+    check_with_room(&read, answer.len())?;
+    Ok(tables::find_lowest(&read.table, answer))
 }
 
-// Which levels does the sheet itself name?
-pub fn own_levels(sheet: &[u8], answer: &mut [u8]) -> Handed
+// Which levels does the sheet itself name, and for how many jobs?
+pub fn own_levels(sheet: &[u8], answer: &mut [u8]) -> Result<u32, Refusal>
     ensures { LevelsCopied sheet.now answer.old answer.new result }
 {
     let read = sheet::read_sheet(sheet);
-    let reading = read.reading;
-    if let Reading::Refused(r) = reading {
-        return Handed::Refused(r);
-    }
-    let jobs = read.table.jobs;
-    let checked = check_room(jobs, answer.len());
-    if let Checked::Refused(r) = checked {
-        return Handed::Refused(r);
-    }
-    tables::copy_levels(jobs, &read.table.level, answer);
-    let number = jobs as u32;
-    Handed::Number(number)
+    check_with_room(&read, answer.len())?;
+    tables::copy_levels(&read.table, answer);
+    // No From narrows, and at most 32 jobs are read.
+    Ok(read.table.jobs as u32)
 }

@@ -7,7 +7,5 @@ pub fn put(row: &[u8], at: usize, buffer: &mut [u8])
     ensures { buffer.new
         ≡ take at buffer.old ++ row.now ++ drop (at + length row.now) buffer.old }
 {
-    for i in 0..row.len() {
-        buffer[at + i] = row[i];
-    }
+    buffer[at..at + row.len()].copy_from_slice(row);
 }

@@ -1,6 +1,6 @@
 -- Whatever a question's checks meet, the place of the fault is below 65536; and a table that passes them is one that a sheet was read into.
 -- Assumes nothing.
-use Rattle.std.specs.Prelude.{ℕ, suc, ◌+◌, ◌≤◌, ◌<◌, ◌≡◌, not, List, [], ◌∷◌, ltb, eqb, length}
+use Rattle.std.specs.Prelude.{ℕ, suc, ◌+◌, ◌≤◌, ◌<◌, ◌≡◌, not, List, [], ◌∷◌, ltb, eqb, length, Option, Result, Err}
 use Rattle.std.proofs.Common.{subst, arith, eqb-true}
 use Rattle.std.proofs.lemmas.Bool.{not-false}
 use Rattle.sheet.specs.Step.{Step, ok, fault}
@@ -12,7 +12,6 @@ use Rattle.sheet.specs.Answer.{fault_of, Answered}
 use Rattle.sheet.specs.AnswerLaws.{answer_place}
 use Rattle.sheet.specs.Jobs.{jobs_of}
 use Rattle.sheet.specs.declared.Refusal.{Refusal}
-use Rattle.sheet.specs.declared.Reading.TheVariants as reading
 use Rattle.sheet.specs.declared.ReadAnswer.{ReadAnswer}
 use Rattle.sheet.specs.declared.Table.{Table}
 use Rattle.theory.specs.Walk as theory
@@ -20,20 +19,15 @@ use Rattle.walk.specs.declared.four.Four.{Four}
 use Rattle.planner.specs.Checks.{none_above, levels_at, room_at, sheet_with, with_levels, with_room}
 use Rattle.planner.specs.Questions.{Answers, Judged, Walks, walk_of, Walked, InBuffer}
 use Rattle.planner.specs.declared.Verdict.{Verdict}
-use Rattle.planner.specs.declared.Verdict.TheVariants as verdict
-use Rattle.planner.specs.declared.Walk.{Walk}
-use Rattle.planner.specs.declared.Walk.TheVariants as walk
 use Rattle.planner.specs.declared.WalkAnswer.{WalkAnswer}
-use Rattle.planner.specs.declared.Handed.{Handed}
-use Rattle.planner.specs.declared.Handed.TheVariants as handed
 
 -- small enough to stand beside a number in one reply
 abbrev pub Near : ℕ → Type 0
 Near place = place < 65536
 
 -- an answer whose refusal, if it is one, has such a place
-abbrev pub TurnedNear : Handed → Type 0
-TurnedNear a = (r : Refusal) → a ≡ handed.Refused r → Near r.place
+abbrev pub TurnedNear : Result ℕ Refusal → Type 0
+TurnedNear a = (r : Refusal) → a ≡ Err r → Near r.place
 
 -- what is asked less of ends as well
 ends_less :
@@ -90,19 +84,19 @@ module _ {A B : Type 0} (P : A → Type 0) (Q : ℕ → Type 0) (R : A → B →
   accepted_of (fault number place) b ends p = absurd p
 
 -- so the place of every refusal is below 65536
-pub read_near : (s : List ℕ) (a : ReadAnswer) (r : Refusal) → Answered s a → a.reading ≡ reading.Refused r → Near r.place
+pub read_near : (s : List ℕ) (a : ReadAnswer) (r : Refusal) → Answered s a → a.reading ≡ Err r → Near r.place
 read_near s a r h e = omega (arith, answer_place s a h r e)
 
-pub judge_near : (s ls : List ℕ) (v : Verdict) (r : Refusal) → Judged s ls v → v ≡ verdict.Refused r → Near r.place
+pub judge_near : (s ls : List ℕ) (v : Result Verdict Refusal) (r : Refusal) → Judged s ls v → v ≡ Err r → Near r.place
 judge_near s ls v r h e = refused_at ReadTable Near _ (with_levels s ls) r (with_levels_near s ls) (rw e at h)
 
-pub next_near : (s ls : List ℕ) (above : Four) (a : WalkAnswer) (r : Refusal) → Walked s ls above a → a.walk ≡ walk.Refused r → Near r.place
+pub next_near : (s ls : List ℕ) (above : Four) (a : WalkAnswer) (r : Refusal) → Walked s ls above a → a.walk ≡ Err r → Near r.place
 next_near s ls above a r h e =
     let R : Table → theory.Answer → Type 0 = λ t. Walks ls above a (jobs_of t) in
-    refused_at ReadTable Near R (with_levels s ls) r (with_levels_near s ls) (subst (λ (w : Walk). Answers R (with_levels s ls) (walk_of w)) e h.outcome)
+    refused_at ReadTable Near R (with_levels s ls) r (with_levels_near s ls) (subst (λ (w : Result (Option Four) Refusal). Answers R (with_levels s ls) (walk_of w)) e h.outcome)
 
 pub buffer_near :
-    (R : Table → (before after : List ℕ) → ℕ → Type 0) (s before after : List ℕ) (a : Handed)
+    (R : Table → (before after : List ℕ) → ℕ → Type 0) (s before after : List ℕ) (a : Result ℕ Refusal)
     → InBuffer R s before after a → TurnedNear a
 buffer_near R s before after a h r e =
     refused_at ReadTable Near (λ t. R t before after) (with_room s (length before)) r (with_room_near s (length before)) (rw e at h.outcome)

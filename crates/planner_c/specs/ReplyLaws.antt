@@ -1,6 +1,6 @@
 -- How large the numbers are that are replied.
 -- Assumes nothing.
-use Rattle.std.specs.Prelude.{ℕ, ◌≤◌, ◌<◌, ◌≡◌, not, List, ◌∷◌, eqb, length}
+use Rattle.std.specs.Prelude.{ℕ, ◌≤◌, ◌<◌, ◌≡◌, not, List, ◌∷◌, eqb, length, Option, Some, Result, Ok}
 use Rattle.std.proofs.Common.{subst, arith, lit≤}
 use Rattle.theory.specs.Danger.{Jobs, distinct?}
 use Rattle.theory.specs.Find.{some?}
@@ -22,8 +22,6 @@ use Rattle.walk.specs.Answers.{named}
 use Rattle.walk.specs.declared.four.Four.{Four}
 use Rattle.planner.specs.Checks.{with_levels}
 use Rattle.planner.specs.Questions.{Answers, ChainBeside, Walks, walk_of, Walked, Copies}
-use Rattle.planner.specs.declared.Walk.{Walk}
-use Rattle.planner.specs.declared.Walk.TheVariants as walk
 use Rattle.planner.specs.declared.WalkAnswer.{WalkAnswer}
 use Rattle.planner_c.specs.Replies.{code_of, Told}
 use Rattle.planner_c.specs.PlaceLaws.{Near, with_levels_near, accepted_of}
@@ -61,11 +59,11 @@ chain_few js ls f a h =
     let few = pigeons (length js) row (and_right (not (some? (eqb h.t1) row)) (distinct? row) c.distinct) c.known in
     (omega (arith, h.shown.count), omega (arith, h.shown.count))
 
-pub next_few : (s ls : List ℕ) (above : Four) (a : WalkAnswer) (f : Four) → Walked s ls above a → a.walk ≡ walk.Found f → (1 ≤ a.length) × (a.length ≤ 32)
+pub next_few : (s ls : List ℕ) (above : Four) (a : WalkAnswer) (f : Four) → Walked s ls above a → a.walk ≡ Ok (Some f) → (1 ≤ a.length) × (a.length ≤ 32)
 next_few s ls above a f h e =
     let R : Table → theory.Answer → Type 0 = λ t. Walks ls above a (jobs_of t) in
     let o = accepted_of ReadTable Near R (with_levels s ls) (theory.found (named f)) (with_levels_near s ls)
-    (subst (λ (w : Walk). Answers R (with_levels s ls) (walk_of w)) e h.outcome) in
+    (subst (λ (w : Result (Option Four) Refusal). Answers R (with_levels s ls) (walk_of w)) e h.outcome) in
     let few = chain_few (jobs_of o.0) ls (named f) a o.2.1 in
     (few.0, omega (arith, jobs_few o.0 o.1))
 

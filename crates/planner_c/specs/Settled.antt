@@ -1,7 +1,7 @@
 -- Each statement settles its reply and the lent bytes (document 01, "How firmly each call is tied down"), and a caller tells an accepted
 -- answer from a refusal, with its number and place, by the reply alone.
 -- Assumes nothing.
-use Rattle.std.specs.Prelude.{ℕ, ◌≤◌, ◌<◌, ◌≡◌, refl, Bool, List, length}
+use Rattle.std.specs.Prelude.{ℕ, ◌≤◌, ◌<◌, ◌≡◌, refl, Bool, List, length, Option, Some, None, Result, Ok, Err}
 use Rattle.std.proofs.Common.{sym, ap, ◌∙◌, arith, lit<}
 use Rattle.theory.specs.Form1.{form1}
 use Rattle.theory.specs.Walk as theory
@@ -12,8 +12,6 @@ use Rattle.sheet.specs.AnswerLaws.{settled}
 use Rattle.sheet.specs.Jobs.{jobs_of}
 use Rattle.sheet.specs.ReadTable.{ReadTable}
 use Rattle.sheet.specs.declared.Refusal.{Refusal}
-use Rattle.sheet.specs.declared.Reading.{Reading}
-use Rattle.sheet.specs.declared.Reading.TheVariants as reading
 use Rattle.sheet.specs.declared.ReadAnswer.{ReadAnswer}
 use Rattle.sheet.specs.declared.Table.{Table}
 use Rattle.verdict.specs.Verdict.{Lowers}
@@ -23,11 +21,7 @@ use Rattle.planner.specs.Questions.{Answers, verdict_of, walk_of, handed_of, InB
 use Rattle.planner.proofs.Settled as questions
 use Rattle.planner.specs.declared.Verdict.{Verdict}
 use Rattle.planner.specs.declared.Verdict.TheVariants as verdict
-use Rattle.planner.specs.declared.Walk.{Walk}
-use Rattle.planner.specs.declared.Walk.TheVariants as walk
 use Rattle.planner.specs.declared.WalkAnswer.{WalkAnswer}
-use Rattle.planner.specs.declared.Handed.{Handed}
-use Rattle.planner.specs.declared.Handed.TheVariants as handed
 use Rattle.planner_c.specs.Replies.{read_code, ReadReply, judge_code, JudgeReply, step_code, walk_code, found_in, NextReply, handed_code_lem, HandedReply, LowestReply, LevelsReply, Told}
 use Rattle.planner_c.specs.ReplyLaws.{number_in, code_told, next_few, lowest_few, levels_few}
 use Rattle.planner_c.specs.PlaceLaws.{Near, with_room_near, accepted_of, read_near, judge_near, next_near, buffer_near}
@@ -49,8 +43,8 @@ next_settled s ls above before x y n m p q =
     (p.reply ∙ ap walk_code one ∙ sym q.reply, p.bytes ∙ ap (λ (a : WalkAnswer). found_in a before) one ∙ sym q.bytes)
 
 handed_settled :
-    (P : (s before after : List ℕ) → Handed → Type 0)
-    → ((s before x y : List ℕ) (a b : Handed) → P s before x a → P s before y b → (a ≡ b) × (x ≡ y))
+    (P : (s before after : List ℕ) → Result ℕ Refusal → Type 0)
+    → ((s before x y : List ℕ) (a b : Result ℕ Refusal) → P s before x a → P s before y b → (a ≡ b) × (x ≡ y))
     → (s before x y : List ℕ) (n m : ℕ) → HandedReply P s before x n → HandedReply P s before y m → (n ≡ m) × (x ≡ y)
 handed_settled P once s before x y n m p q =
     let one = once s before x y p.handed q.handed p.promised q.promised in
@@ -72,9 +66,9 @@ told R (fault k l) (fault number place) n p h = rw (p.0, p.1) h
 pub read_told : (s : List ℕ) (n : ℕ) → ReadReply s n → Told (sheet_of s) n
 read_told s n p = rw (p.reply, ← p.answered.outcome) (cases p.answer.reading (λ r e. read_near s p.answer r p.answered e))
   where
-    cases : (g : Reading) → ((r : Refusal) → g ≡ reading.Refused r → Near r.place) → Told (reading_of g p.answer.table) (read_code g)
-    cases reading.Sheet near = lit< tt
-    cases (reading.Refused r) near = code_told Table r (near r refl)
+    cases : (g : Result (Unit {0}) Refusal) → ((r : Refusal) → g ≡ Err r → Near r.place) → Told (reading_of g p.answer.table) (read_code g)
+    cases (Ok _) near = lit< tt
+    cases (Err r) near = code_told Table r (near r refl)
 
 pub judge_told : (s ls : List ℕ) (n : ℕ) → JudgeReply s ls n → Told (with_levels s ls) n
 judge_told s ls n p =
@@ -82,10 +76,10 @@ judge_told s ls n p =
     (told _ (with_levels s ls) (verdict_of p.verdict) (judge_code p.verdict) p.judged
     (cases p.verdict (λ r e. judge_near s ls p.verdict r p.judged e)))
   where
-    cases : (v : Verdict) → ((r : Refusal) → v ≡ verdict.Refused r → Near r.place) → Told (verdict_of v) (judge_code v)
-    cases verdict.Robust near = lit< tt
-    cases verdict.Dangerous near = lit< tt
-    cases (verdict.Refused r) near = code_told Bool r (near r refl)
+    cases : (v : Result Verdict Refusal) → ((r : Refusal) → v ≡ Err r → Near r.place) → Told (verdict_of v) (judge_code v)
+    cases (Ok verdict.Robust) near = lit< tt
+    cases (Ok verdict.Dangerous) near = lit< tt
+    cases (Err r) near = code_told Bool r (near r refl)
 
 pub next_told : (s ls : List ℕ) (above : Four) (before after : List ℕ) (n : ℕ) → NextReply s ls above before after n → Told (with_levels s ls) n
 next_told s ls above before after n p =
@@ -95,22 +89,22 @@ next_told s ls above before after n p =
     (cases a.walk a.length (λ f e. next_few s ls above a f p.walked e) (λ r e. next_near s ls above a r p.walked e)))
   where
     cases :
-        (w : Walk) (k : ℕ) → ((f : Four) → w ≡ walk.Found f → (1 ≤ k) × (k ≤ 32)) → ((r : Refusal) → w ≡ walk.Refused r → Near r.place)
+        (w : Result (Option Four) Refusal) (k : ℕ) → ((f : Four) → w ≡ Ok (Some f) → (1 ≤ k) × (k ≤ 32)) → ((r : Refusal) → w ≡ Err r → Near r.place)
         → Told (walk_of w) (step_code w k)
-    cases (walk.Found f) k few near = omega (arith, few f refl)
-    cases walk.End k few near = lit< tt
-    cases (walk.Refused r) k few near = code_told theory.Answer r (near r refl)
+    cases (Ok (Some f)) k few near = omega (arith, few f refl)
+    cases (Ok None) k few near = lit< tt
+    cases (Err r) k few near = code_told theory.Answer r (near r refl)
 
 -- the reply 0 to a step of the walk is the end
-pub end_told : (s ls : List ℕ) (above : Four) (before after : List ℕ) (p : NextReply s ls above before after 0) → p.answer.walk ≡ walk.End
+pub end_told : (s ls : List ℕ) (above : Four) (before after : List ℕ) (p : NextReply s ls above before after 0) → p.answer.walk ≡ Ok None
 end_told s ls above before after p = cases p.answer.walk p.reply (λ f e. next_few s ls above p.answer f p.walked e)
   where
     cases :
-        (w : Walk) → 0 ≡ step_code w p.answer.length
-        → ((f : Four) → w ≡ walk.Found f → (1 ≤ p.answer.length) × (p.answer.length ≤ 32)) → w ≡ walk.End
-    cases (walk.Found f) e few = absurd (omega (arith, few f refl))
-    cases walk.End e few = refl
-    cases (walk.Refused r) e few = absurd (omega (arith, number_in r.reason))
+        (w : Result (Option Four) Refusal) → 0 ≡ step_code w p.answer.length
+        → ((f : Four) → w ≡ Ok (Some f) → (1 ≤ p.answer.length) × (p.answer.length ≤ 32)) → w ≡ Ok None
+    cases (Ok (Some f)) e few = absurd (omega (arith, few f refl))
+    cases (Ok None) e few = refl
+    cases (Err r) e few = absurd (omega (arith, number_in r.reason))
 
 -- levels handed out, where the number beside them is small
 handed_told :
@@ -122,11 +116,11 @@ handed_told R few s before after n p =
     rw p.reply
     (told (λ t. R t before after) (with_room s (length before)) (handed_of a) (handed_code_lem a) p.promised.outcome (cases a p.promised))
   where
-    cases : (a : Handed) → InBuffer R s before after a → Told (handed_of a) (handed_code_lem a)
-    cases (handed.Number n) h =
+    cases : (a : Result ℕ Refusal) → InBuffer R s before after a → Told (handed_of a) (handed_code_lem a)
+    cases (Ok n) h =
         let o = accepted_of ReadTable Near (λ t. R t before after) (with_room s (length before)) n (with_room_near s (length before)) h.outcome in
         few o.0 o.1 before after n o.2
-    cases (handed.Refused r) h = code_told ℕ r (buffer_near R s before after (handed.Refused r) h r refl)
+    cases (Err r) h = code_told ℕ r (buffer_near R s before after (Err r) h r refl)
 
 pub lowest_told : (s before after : List ℕ) (n : ℕ) → LowestReply s before after n → Told (with_room s (length before)) n
 lowest_told = handed_told (λ t. Lowers form1 (jobs_of t)) lowest_few

@@ -10,10 +10,7 @@ pub fn show<'a>(danger: Four, chain: &'a [u8; 32], pairs: &'a [u8; 64], found: &
         ≡ danger.t1 ∷ danger.b1 ∷ danger.t2 ∷ danger.tm ∷ (chain.now ++ pairs.now ++ replicate 28 0) }
 {
     let kept = [0u8; 28];
-    found[0] = danger.t1;
-    found[1] = danger.b1;
-    found[2] = danger.t2;
-    found[3] = danger.tm;
+    put(&<[u8; 4]>::from(danger), 0, found);
     put(chain, 4, found);
     put(pairs, 36, found);
     put(&kept, 100, found);

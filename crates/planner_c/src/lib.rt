@@ -7,8 +7,8 @@ ghost use Rattle.std.specs.Prelude.{◌≡◌};
 ghost use Rattle.planner_c.specs.Replies.{code_of, handed_code_lem, ReadReply, JudgeReply, NextReply, LowestReply, LevelsReply};
 ghost use Rattle.planner_c.specs.PlaceLaws.{Near, TurnedNear};
 
-use planner::{Handed, Verdict, Walk};
-use sheet::{Reading, Refusal};
+use planner::Verdict;
+use sheet::Refusal;
 use walk::four::Four;
 
 // A refusal as one number.
@@ -16,20 +16,20 @@ fn code(r: Refusal) -> u32
     requires { Near r.place }
     ensures { result ≡ code_of r }
 {
-    let reason = r.reason;
-    let number = sheet::number(reason);
+    let number = u32::from(r.reason);
+    // No From narrows, and a place is below 65536.
     let place = r.place as u32;
     number * 65536 + place
 }
 
 // The number that comes with the levels in `answer`, or the refusal.
-fn handed_code(handed: Handed) -> u32
+fn handed_code(handed: Result<u32, Refusal>) -> u32
     requires { TurnedNear handed }
     ensures { result ≡ handed_code_lem handed }
 {
     match handed {
-        Handed::Number(n) => n,
-        Handed::Refused(r) => code(r),
+        Ok(n) => n,
+        Err(r) => code(r),
     }
 }
 
@@ -38,11 +38,9 @@ fn handed_code(handed: Handed) -> u32
 pub extern "C" fn planner_read(sheet: &[u8]) -> u32
     ensures { ReadReply sheet.now result }
 {
-    let answer = sheet::read_sheet(sheet);
-    let reading = answer.reading;
-    match reading {
-        Reading::Sheet => 0,
-        Reading::Refused(r) => code(r),
+    match sheet::read_sheet(sheet).reading {
+        Ok(()) => 0,
+        Err(r) => code(r),
     }
 }
 
@@ -51,11 +49,10 @@ pub extern "C" fn planner_read(sheet: &[u8]) -> u32
 pub extern "C" fn planner_judge(sheet: &[u8], levels: &[u8]) -> u32
     ensures { JudgeReply sheet.now levels.now result }
 {
-    let verdict = planner::judge(sheet, levels);
-    match verdict {
-        Verdict::Robust => 1,
-        Verdict::Dangerous => 0,
-        Verdict::Refused(r) => code(r),
+    match planner::judge(sheet, levels) {
+        Ok(Verdict::Robust) => 1,
+        Ok(Verdict::Dangerous) => 0,
+        Err(r) => code(r),
     }
 }
 
@@ -74,14 +71,14 @@ pub extern "C" fn planner_next(
     ensures { NextReply sheet.now levels.now (record { t1 = t1; b1 = b1; t2 = t2; tm = tm }) found.old found.new result }
 {
     let answer = planner::next_danger(sheet, levels, Four { t1, b1, t2, tm });
-    let walk = answer.walk;
-    match walk {
-        Walk::Found(danger) => {
+    match answer.walk {
+        Ok(Some(danger)) => {
             found::show(danger, &answer.chain, &answer.pairs, found);
+            // No From narrows, and a chain has at most 32 jobs.
             answer.length as u32
         }
-        Walk::End => 0,
-        Walk::Refused(r) => code(r),
+        Ok(None) => 0,
+        Err(r) => code(r),
     }
 }
 

@@ -1,5 +1,6 @@
 -- Whether first and last jobs are joined, by one spread.
 use mathlib.Core.Path.{◌≡◌, ap}
+use mathlib.Core.Logic.{◌⊎◌, inl, inr}
 use mathlib.Core.Bool.{false}
 use mathlib.Core.List.{List}
 use Prim.Native.Nat.{ℕ, ◌^◌, ◌<◌, min}
@@ -20,11 +21,9 @@ module _ (clash_of : List ℕ) (shut first last : ℕ) where
   none : ¬ Meets clash_of shut first last → Meeting clash_of shut first last false
   none f = record { met = λ e. absurd (omega (arith, ltb-true 0 0 e)); apart = λ _. f }
 
-  pub no_first : first ≡ 0 → Meeting clash_of shut first last false
-  no_first z = none (λ m. nobody first m.0 z m.3)
-
-  pub no_last : last ≡ 0 → Meeting clash_of shut first last false
-  no_last z = none (λ m. nobody last m.1 z m.4)
+  pub no_ends : (first ≡ 0) ⊎ ((first ≡ 0 → ⊥) × (last ≡ 0)) → Meeting clash_of shut first last false
+  no_ends (inl z) = none (λ m. nobody first m.0 z m.3)
+  no_ends (inr z) = none (λ m. nobody last m.1 z.1 m.4)
 
   pub spread_meets : (all both : ℕ) → Joined clash_of shut first all → ((k : ℕ) → bit both k ≡ min (bit all k) (bit last k)) → both < 2 ^ 32 → Meeting clash_of shut first last (ltb 0 both)
   spread_meets all both w e small = record {

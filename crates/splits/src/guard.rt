@@ -10,8 +10,8 @@ pub fn at_ssi(jobs: usize, levels: &[u8]) -> u32
     ensures { Has result (ssi? jobs levels.now) }
 {
     let mut all = 0;
-    for j in 0..jobs {
-        if 2 <= levels[j] {
+    for (j, level) in levels[..jobs].iter().enumerate() {
+        if 2 <= *level {
             all = jobset::with(all, j as u32);
         }
     }

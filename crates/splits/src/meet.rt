@@ -1,15 +1,14 @@
 // Paths between first and last jobs.
 ghost use Rattle.splits.specs.Splits.{Meeting};
 
+use chain::Paths;
+
 // Whether some first job is joined with some last one.
-pub fn meets(clash: &[u32; 32], shut: u32, first: u32, last: u32) -> bool
-    ensures { Meeting clash.now shut first last result }
+pub fn meets(paths: Paths, first: u32, last: u32) -> bool
+    ensures { Meeting paths.entry.clash.now paths.entry.shut first last result }
 {
-    if first == 0 {
+    if first == 0 || last == 0 {
         return false;
     }
-    if last == 0 {
-        return false;
-    }
-    0 < jobset::intersect(chain::spread(clash, shut, first), last)
+    0 < jobset::intersect(paths.spread(first), last)
 }

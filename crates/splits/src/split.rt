@@ -5,32 +5,24 @@ ghost use Rattle.splits.specs.Splits.{SplitsOf, ShutBy};
 ghost use Rattle.splits.specs.Steps.{ReturnsOf};
 
 use crate::guard::unnoticed;
+use conflicts::sets::Sets;
 
-// Into `last`, for each operation of job t1, the jobs that meet condition 5: those that are rw with t1, and if it is at RC those that
-// conflict with a later operation.
-fn find_returns(
-    kind: &[u8; 512],
-    writers: &[u32; 512],
-    t1: usize,
-    level: u8,
-    back: u32,
-    last: &mut [u32; 16],
-)
-    requires { (t1 < 32) × (length last.old ≡ 16) }
-    ensures { ReturnsOf kind.now writers.now t1 level back last.new }
+// For each operation of job t1 the jobs that meet condition 5: those that are rw with t1, and if it is at RC those that conflict with a
+// later operation.
+fn find_returns(sets: &Sets, t1: usize, level: u8) -> [u32; 16]
+    requires { t1 < 32 }
+    ensures { ReturnsOf sets.now.table.now.kind sets.now.writers t1 level (get_or sets.now.wr t1 0) result }
 {
-    let mut all = back;
-    let mut b = 16;
-    while 0 < b {
-        b -= 1;
+    let mut last = [0u32; 16];
+    let mut all = sets.wr[t1];
+    for b in (0..16).rev() {
         last[b] = all;
         if level < 1 {
             let i = 16 * t1 + b;
-            let rw = conflicts::sets::over(kind, writers, i, 1);
-            let ww = conflicts::sets::over(kind, writers, i, 2);
-            all = jobset::union(all, jobset::union(rw, ww));
+            all = jobset::union(all, jobset::union(sets.over(i, 1), sets.over(i, 2)));
         }
     }
+    last
 }
 
 // The jobs that may be neither first nor last whatever the operation: t1, and if it is above RC those that are ww with it.
@@ -45,31 +37,29 @@ fn closed_from_start(ww: &[u32; 32], t1: usize, level: u8) -> u32
     }
 }
 
+// The jobs that may be first and last, for each operation of a split job.
+#[derive(Clone, Copy)]
+pub struct Ends {
+    pub first: [u32; 16],
+    pub last: [u32; 16],
+}
+
 // For each operation of job t1 the jobs that may be first (conditions 2 to 4 and 7) and last (2, 3, 5 and 8).
-pub fn find_splits(
-    kind: &[u8; 512],
-    writers: &[u32; 512],
-    ww: &[u32; 32],
-    rw: &[u32; 32],
-    wr: &[u32; 32],
-    t1: usize,
-    level: u8,
-    watch: u32,
-    first: &mut [u32; 16],
-    last: &mut [u32; 16],
-)
-    requires { (t1 < 32) × (length first.old ≡ 16) × (length last.old ≡ 16) }
-    ensures { SplitsOf kind.now writers.now ww.now rw.now wr.now t1 level watch first.new last.new }
+pub fn find_splits(sets: &Sets, t1: usize, level: u8, watch: u32) -> Ends
+    requires { t1 < 32 }
+    ensures { SplitsOf sets.now.table.now.kind sets.now.writers sets.now.ww sets.now.rw sets.now.wr t1 level watch result.first result.last }
 {
-    find_returns(kind, writers, t1, level, wr[t1], last);
-    let mut closed = closed_from_start(ww, t1, level);
+    let mut first = [0u32; 16];
+    let mut last = find_returns(sets, t1, level);
+    let mut closed = closed_from_start(&sets.ww, t1, level);
     for b in 0..16 {
         let i = 16 * t1 + b;
-        closed = jobset::union(closed, conflicts::sets::over(kind, writers, i, 2));
-        let free = jobset::without(conflicts::sets::over(kind, writers, i, 1), closed);
-        first[b] = unnoticed(free, watch, wr[t1]);
-        last[b] = unnoticed(jobset::without(last[b], closed), watch, rw[t1]);
+        closed = jobset::union(closed, sets.over(i, 2));
+        let free = jobset::without(sets.over(i, 1), closed);
+        first[b] = unnoticed(free, watch, sets.wr[t1]);
+        last[b] = unnoticed(jobset::without(last[b], closed), watch, sets.rw[t1]);
     }
+    Ends { first, last }
 }
 
 // The jobs that may not stand in the middle of a chain: t1 and those that conflict with it (condition 1).

@@ -8,9 +8,10 @@ use native.Mathlib.Omega.{arith}
 use borrow.Author.Tests.{eq-eqb, ne_eqb}
 use lib.ListN.{length, drop, get_or, get_or-eq_default}
 use lib.Seq.{drop-cons}
-use Rattle.text.specs.Text.{Put, decimal}
+use Rattle.text.specs.Text.{Puts, decimal}
+use Rattle.text.specs.declared.Text.{Text}
 use Rattle.text.specs.Lines.{word, row}
-use Rattle.text.proofs.PutLaws.{put_length, put_append}
+use Rattle.text.proofs.PutLaws.{puts_append}
 
 -- nothing follows from a zero on, or behind the last number, ..
 row_none : (ns : List ℕ) (i : ℕ) → get_or ns i 0 ≡ 0 → row (drop i ns) ≡ []
@@ -26,29 +27,29 @@ unfolding row
 row_more ns i h d = rw (add-one, drop-cons ns i 0 h, ne_eqb _ _ d)
 
 -- a row of which the numbers before i are put
-pub record Begun (ns : List ℕ) (i : ℕ) (out : List ℕ) (used : ℕ) (out' : List ℕ) (used' : ℕ) : Type 0 where
+pub record Begun (ns : List ℕ) (i : ℕ) (t u : Text) : Type 0 where
   pub done : List ℕ
   pub whole : row ns ≡ done ++ row (drop i ns)
-  pub put : Put done out used out' used'
+  pub puts : Puts t done u
 
-pub row_begun : (ns out : List ℕ) (used : ℕ) → Begun ns 0 out used out used
-row_begun ns out used = record { done = []; whole = refl; put = record { stored = refl; counted = omega arith } }
+pub row_begun : (ns : List ℕ) (t : Text) → Begun ns 0 t t
+row_begun ns t = record {
+  done = [];
+  whole = refl;
+  puts = record { put = record { stored = refl; counted = omega arith }; same_buffer = refl };
+}
 
-module _ {ns : List ℕ} {i : ℕ} {out : List ℕ} {used : ℕ} {out₁ : List ℕ} {used₁ : ℕ} (b : Begun ns i out used out₁ used₁) where
-  pub begun_length : length out₁ ≡ length out
-  begun_length = put_length b.done b.put
+module _ {ns : List ℕ} {i : ℕ} {t u : Text} (b : Begun ns i t u) where
+  pub row_put : get_or ns i 0 ≡ 0 → Puts t (row ns) u
+  row_put e = rw (b.whole, row_none ns i e, append-nil) b.puts
 
-  pub row_put : get_or ns i 0 ≡ 0 → Put (row ns) out used out₁ used₁
-  row_put e = rw (b.whole, row_none ns i e, append-nil) b.put
-
-  pub row_all : length ns ≤ i → Put (row ns) out used out₁ used₁
+  pub row_all : length ns ≤ i → Puts t (row ns) u
   row_all h = row_put (get_or-eq_default ns 0 h)
 
   pub row_on :
-      {out₂ : List ℕ} {used₂ : ℕ} {out₃ : List ℕ} {used₃ : ℕ} → i < length ns → (get_or ns i 0 ≡ 0 → ⊥)
-      → Put (word " ") out₁ used₁ out₂ used₂ → Put (decimal (get_or ns i 0)) out₂ used₂ out₃ used₃ → Begun ns (i + 1) out used out₃ used₃
+      {v w : Text} → i < length ns → (get_or ns i 0 ≡ 0 → ⊥) → Puts u (word " ") v → Puts v (decimal (get_or ns i 0)) w → Begun ns (i + 1) t w
   row_on h d p q = record {
     done = b.done ++ (word " " ++ decimal (get_or ns i 0));
     whole = b.whole ∙ ap (λ (l : List ℕ). b.done ++ l) (row_more ns i h d) ∙ sym (append_assoc b.done (word " " ++ decimal (get_or ns i 0)) (row (drop (i + 1) ns)));
-    put = put_append b.done _ b.put (put_append (word " ") _ p q);
+    puts = puts_append b.done _ b.puts (puts_append (word " ") _ p q);
   }

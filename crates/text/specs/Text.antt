@@ -1,11 +1,17 @@
 -- What it means to put bytes to the end of what a buffer holds, and the digits of numbers.
 use Rattle.std.specs.Prelude.{◌≡◌, cond, List, [], ◌∷◌, ◌++◌, ℕ, zero, suc, ◌+◌, ◌/◌, ◌%◌, min, max, ltb, length}
 use Rattle.std.proofs.lemmas.List.Edits.{sets}
+use Rattle.text.specs.declared.Text.{Text}
 
 -- `bytes` stand behind the first `used` bytes of `out`, as many as there is room for, and are counted
 pub record Put (bytes out : List ℕ) (used : ℕ) (out' : List ℕ) (used' : ℕ) : Type 0 where
   pub stored : out' ≡ sets out used bytes
   pub counted : used' ≡ max used (min (used + length bytes) (length out))
+
+-- the bytes are put to the end of what a text holds, in the same buffer
+pub record Puts (t : Text) (bytes : List ℕ) (u : Text) : Type 0 where
+  pub put : Put bytes t.bytes.now t.used u.bytes.now u.used
+  pub same_buffer : u.bytes.ghost_name ≡ t.bytes.ghost_name
 
 -- the decimal digits of a number that has at most k of them, without leading zeros
 unfoldable pub digits : ℕ → ℕ → List ℕ

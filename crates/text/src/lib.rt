@@ -4,39 +4,16 @@
 
 pub mod lines;
 
-ghost use Rattle.std.specs.Prelude.{◌≡◌, [], ◌∷◌, ◌<◌, ◌/◌, ltb, length, take};
-ghost use Rattle.text.specs.Text.{Put, decimal, nibble, hexadecimal};
+ghost use Rattle.std.specs.Prelude.{◌≡◌, IsOk, [], ◌∷◌, ◌<◌, ◌/◌, ltb, length, take};
+ghost use Rattle.text.specs.Text.{Puts, decimal, nibble, hexadecimal};
 
-// One byte more.
-pub fn put(out: &mut [u8], used: &mut usize, b: u8)
-    ensures { Put (b ∷ []) out.old used.old out.new used.new }
-{
-    let n = *used;
-    if n < out.len() {
-        out[n] = b;
-        *used = n + 1;
-    }
-}
+use std::{fmt, io};
 
-// The bytes of a word.
-pub fn put_word(out: &mut [u8], used: &mut usize, word: &[u8])
-    ensures { Put word.now out.old used.old out.new used.new }
-{
-    for i in 0..word.len() {
-        put(out, used, word[i]);
-    }
-}
-
-// A number in decimal.
-pub fn put_number(out: &mut [u8], used: &mut usize, n: u64)
-    ensures { Put (decimal n) out.old used.old out.new used.new }
-{
-    if n < 10 {
-        put(out, used, b'0' + n as u8);
-        return;
-    }
-    put_number(out, used, n / 10);
-    put(out, used, b'0' + (n % 10) as u8);
+// A buffer and how many of its bytes are used. Any number may stand there, so a caller owes nothing.
+#[derive(Drop)]
+pub struct Text<'a> {
+    pub bytes: &'a mut [u8],
+    pub used: usize,
 }
 
 fn hex_digit(d: u8) -> u8
@@ -46,27 +23,81 @@ fn hex_digit(d: u8) -> u8
     if d < 10 { b'0' + d } else { b'a' - 10 + d }
 }
 
-// A byte as two hexadecimal digits.
-pub fn put_hex(out: &mut [u8], used: &mut usize, b: u8)
-    ensures { Put (hexadecimal b) out.old used.old out.new used.new }
-{
-    put(out, used, hex_digit(b / 16));
-    put(out, used, hex_digit(b % 16));
-}
-
-// What the buffer holds.
-pub fn held(out: &[u8], used: usize) -> &[u8]
-    ensures { result.now ≡ take used out.now }
-{
-    if used < out.len() {
-        return &out[..used];
+impl Text<'_> {
+    // One byte more.
+    pub fn put(&mut self, b: u8)
+        ensures { Puts self.old (b ∷ []) self.new }
+    {
+        let n = self.used;
+        if n < self.bytes.len() {
+            self.bytes[n] = b;
+            self.used = n + 1;
+        }
     }
-    out
+
+    // The bytes of a word.
+    pub fn put_word(&mut self, word: &[u8])
+        ensures { Puts self.old word.now self.new }
+    {
+        for b in word {
+            self.put(*b);
+        }
+    }
+
+    // A number in decimal, by hand: a `write!` says nothing of a text where it fails, and no clause says that it can't.
+    pub fn put_number(&mut self, n: u64)
+        ensures { Puts self.old (decimal n) self.new }
+    {
+        if n < 10 {
+            self.put(b'0' + n as u8);
+            return;
+        }
+        self.put_number(n / 10);
+        self.put(b'0' + (n % 10) as u8);
+    }
+
+    // A byte as two hexadecimal digits.
+    pub fn put_hex(&mut self, b: u8)
+        ensures { Puts self.old (hexadecimal b) self.new }
+    {
+        self.put(hex_digit(b / 16));
+        self.put(hex_digit(b % 16));
+    }
+
+    // What the buffer holds.
+    pub fn held(&self) -> &[u8]
+        ensures { result.now ≡ take self.now.used self.now.bytes.now }
+    {
+        &self.bytes[..self.used.min(self.bytes.len())]
+    }
+
+    // Writes away what the buffer holds, and empties it, also where the write fails.
+    pub fn flush(&mut self, rt: &impl Print) -> io::Result<()>
+        ensures empty { self.new.used ≡ 0 }
+        ensures same_buffer { self.new.bytes ≡ self.old.bytes }
+    {
+        let written = rt.write_all(self.held());
+        self.used = 0;
+        written
+    }
+
+    // Whether the buffer is to be written away: more than half of it is used, and a line takes at most the other half.
+    pub fn is_due(&self) -> bool
+        ensures { result ≡ ltb (length self.now.bytes.now / 2) self.now.used }
+    {
+        self.bytes.len() / 2 < self.used
+    }
 }
 
-// Whether the buffer is to be written away: more than half of it is used, and a line takes at most the other half.
-pub fn is_due(out: &[u8], used: usize) -> bool
-    ensures { result ≡ ltb (length out.now / 2) used }
-{
-    out.len() / 2 < used
+impl fmt::Write for Text<'_> {
+    ghost write_str_gives = { Puts };
+
+    // What has no room is left out here too, so no write fails.
+    fn write_str(&mut self, s: &str) -> fmt::Result
+        ensures ok { IsOk result → Puts self.old s.now self.new }
+        ensures never_fails { IsOk result }
+    {
+        self.put_word(s.as_bytes());
+        Ok(())
+    }
 }

@@ -1,46 +1,42 @@
 // What the programs print alike of a refusal and of a danger.
 ghost use Rattle.std.specs.Prelude.{◌≡◌};
-ghost use Rattle.text.specs.Text.{Put};
+ghost use Rattle.text.specs.Text.{Puts};
 ghost use Rattle.text.specs.Lines.{row, refusal_line, danger_line};
 
-use crate::{put, put_number, put_word};
+use crate::Text;
 
-// A byte as a number.
-fn wide(x: u8) -> u64
-    ensures { result ≡ x }
-{
-    x as u64
-}
-
-// `refused`, the reason's number, `at`, the place.
-pub fn put_refusal(out: &mut [u8], used: &mut usize, number: u32, place: usize)
-    ensures { Put (refusal_line number place) out.old used.old out.new used.new }
-{
-    put_word(out, used, b"refused ");
-    put_number(out, used, number as u64);
-    put_word(out, used, b" at ");
-    put_number(out, used, place as u64);
-}
-
-// A space and a number, for each up to the first zero.
-fn put_row(out: &mut [u8], used: &mut usize, numbers: &[u8])
-    ensures { Put (row numbers.now) out.old used.old out.new used.new }
-{
-    for i in 0..numbers.len() {
-        if numbers[i] == 0 {
-            return;
-        }
-        put(out, used, b' ');
-        put_number(out, used, wide(numbers[i]));
+impl Text<'_> {
+    // `refused`, the reason's number, `at`, the place.
+    pub fn put_refusal(&mut self, number: u32, place: usize)
+        ensures { Puts self.old (refusal_line number place) self.new }
+    {
+        self.put_word(b"refused ");
+        self.put_number(u64::from(number));
+        self.put_word(b" at ");
+        self.put_number(place as u64);
     }
-}
 
-// `danger`, the four numbers, a colon, the jobs of the chain; behind them the chain has zeros.
-pub fn put_danger(out: &mut [u8], used: &mut usize, four: &[u8; 4], chain: &[u8; 32])
-    ensures { Put (danger_line four.now chain.now) out.old used.old out.new used.new }
-{
-    put_word(out, used, b"danger");
-    put_row(out, used, four);
-    put_word(out, used, b" :");
-    put_row(out, used, chain);
+    // A space and a number, for each up to the first zero.
+    fn put_row(&mut self, numbers: &[u8])
+        ensures { Puts self.old (row numbers.now) self.new }
+    {
+        for n in numbers {
+            let ended = *n == 0;
+            if ended {
+                return;
+            }
+            self.put(b' ');
+            self.put_number(u64::from(*n));
+        }
+    }
+
+    // `danger`, the four numbers, a colon, the jobs of the chain; behind them the chain has zeros.
+    pub fn put_danger(&mut self, four: &[u8; 4], chain: &[u8; 32])
+        ensures { Puts self.old (danger_line four.now chain.now) self.new }
+    {
+        self.put_word(b"danger");
+        self.put_row(four);
+        self.put_word(b" :");
+        self.put_row(chain);
+    }
 }

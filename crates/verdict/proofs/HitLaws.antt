@@ -1,22 +1,26 @@
 -- The jobs that are hit, and those that need SSI, as sets.
 use mathlib.Core.Path.{◌≡◌, sym, subst, ◌∙◌}
-use mathlib.Core.Bool.{Bool, true, false}
+use mathlib.Core.Bool.{Bool, true, false, ◌&&◌, not}
 use mathlib.Core.Logic.{◌↔◌, ◌⊎◌, inl, inr}
 use mathlib.Core.List.{List}
-use Prim.Native.Nat.{ℕ, ◌+◌, ◌-◌, ◌<◌, min, max}
+use Prim.Native.Nat.{ℕ, ◌+◌, ◌-◌, ◌^◌, ◌<◌, min, max}
 use native.Mathlib.Omega.{arith}
 use native.Mathlib.Decide.{ℕ_discrete}
 use lib.Dec.{eqb}
 use borrow.Author.Tests.{eqb-true, eqb-false}
-use lib.ListN.{length}
+use lib.ListN.{length, get_or}
 use Rattle.jobset.specs.Jobset.{bit, one}
-use Rattle.jobset.specs.JobsetLaws.{bit_lt, bit_none, digit, single_is, single_has, one_lt, member_pos}
-use Rattle.theory.specs.Danger.{Rule, Jobs}
+use Rattle.jobset.specs.JobsetLaws.{bit_lt, bit_none, digit, single_is, single_has, one_lt, some_member, member_pos}
+use Rattle.theory.specs.Danger.{Rule, Jobs, wr}
 use Rattle.theory.specs.Guards.{Paper}
 use Rattle.theory.proofs.KnownLaws.{t1_known}
 use Rattle.chain.specs.Paths.{Joined}
+use Rattle.conflicts.specs.Sets.{Has, Sets, job_with}
+use Rattle.splits.specs.Splits.{shut?}
 use Rattle.verdict.specs.Verdict.{IsSplit}
 use Rattle.verdict.specs.Needed.{only, Hit, both, ahead, behind, NeededBy, Needed}
+use Rattle.verdict.specs.NeededLaws.{needed_none, needed_some}
+use Rattle.verdict.proofs.SplitLaws.{has_less}
 
 -- a job is in a union where it is in one of the sets
 in_union : (a b m : ℕ) → a < 2 → b < 2 → m ≡ max a b → (m ≡ 1) ↔ ((a ≡ 1) ⊎ (b ≡ 1))
@@ -37,7 +41,7 @@ pub is_out : (m k : ℕ) (b : Bool) → b ≡ eqb (bit m k) 1 → b ≡ false �
 is_out m k b e t = elim (digit _ (bit_lt m k)) [ inl z ↦ z | inr o ↦ absurd (eqb-false _ _ (sym e ∙ t) o) ]
 
 -- a set with a job added
-pub in_with : (m r i : ℕ) → ((k : ℕ) → bit r k ≡ max (bit m k) (one (eqb i k))) → (j : ℕ) → (bit r j ≡ 1) ↔ ((i ≡ j) ⊎ (bit m j ≡ 1))
+in_with : (m r i : ℕ) → ((k : ℕ) → bit r k ≡ max (bit m k) (one (eqb i k))) → (j : ℕ) → (bit r j ≡ 1) ↔ ((i ≡ j) ⊎ (bit m j ≡ 1))
 in_with m r i e j =
     let iff = in_union (bit m j) (one (eqb i j)) (bit r j) (bit_lt m j) (one_lt (eqb i j)) (e j) in
     (λ f. elim (iff.0 f) [ inl o ↦ inr o | inr o ↦ inl (single_is i j o) ], λ q. elim q [ inl s ↦ iff.1 (inr (subst (λ (x : ℕ). one (eqb i x) ≡ 1) s (single_has i))) | inr o ↦ iff.1 (inl o) ])
@@ -54,8 +58,8 @@ module _ (clash_of : List ℕ) (shut first last : ℕ) where
   hit_last j (behind k c l f nl p) = member_pos last j l
 
   -- no job is hit where there is no first or no last job
-  pub no_hit : (first ≡ 0) ⊎ (last ≡ 0) → (j : ℕ) → (bit 0 j ≡ 1) ↔ Hit clash_of shut first last j
-  no_hit none j = (λ e. absurd (omega (arith, bit_none j)), λ h. absurd (elim none [ inl e ↦ omega (arith, hit_first j h) | inr e ↦ omega (arith, hit_last j h) ]))
+  pub no_hit : (first ≡ 0) ⊎ ((first ≡ 0 → ⊥) × (last ≡ 0)) → (j : ℕ) → (bit 0 j ≡ 1) ↔ Hit clash_of shut first last j
+  no_hit none j = (λ e. absurd (omega (arith, bit_none j)), λ h. absurd (elim none [ inl e ↦ omega (arith, hit_first j h) | inr e ↦ omega (arith, hit_last j h, e.1) ]))
 
   -- the jobs of both sets, the last ones that a spread from first jobs alone reaches, and the first ones from last jobs alone
   module _ (from_first from_last reach_first reach_last lasts firsts pairs ends all : ℕ)
@@ -91,6 +95,30 @@ module _ (clash_of : List ℕ) (shut first last : ℕ) where
         found (both f l) = inl (omega (arith, in_pairs j))
         found (ahead k c f l nf p) = let e = last_spread.whole k j c (omega (arith, in_from_last k)) p in inr (end.1 (inr (omega (arith, in_firsts j))))
         found (behind k c l f nl p) = let e = first_spread.whole k j c (omega (arith, in_from_first k)) p in inr (end.1 (inl (omega (arith, in_lasts j))))
+
+-- the jobs that need SSI because of t1, by the sets of t1 alone
+module _ (r : Rule) (js : Jobs r) {kind writers ww_of rw_of wr_of clash_of : List ℕ} (s : Sets r js kind writers ww_of rw_of wr_of clash_of)
+    (t1 shut : ℕ) (small : t1 < 32) (h : Has shut (shut? r js t1)) (first last hit : ℕ)
+    (first_is : (k : ℕ) → bit first k ≡ bit (get_or rw_of t1 0) k - bit (get_or ww_of t1 0) k)
+    (last_is : (k : ℕ) → bit last k ≡ bit (get_or wr_of t1 0) k - bit (get_or ww_of t1 0) k)
+    (hit_is : (j : ℕ) → (bit hit j ≡ 1) ↔ Hit clash_of shut first last j)
+  where
+    firsts : Has first (λ k. job_with r js r.rw t1 k && not (job_with r js r.ww t1 k))
+    firsts = has_less _ _ first _ _ (s.job_rw t1 small) (s.job_ww t1 small) first_is
+
+    lasts : Has last (λ k. job_with r js (wr r) t1 k && not (job_with r js r.ww t1 k))
+    lasts = has_less _ _ last _ _ (s.job_wr t1 small) (s.job_ww t1 small) last_is
+
+    pub none_needed : hit ≡ 0 → NeededBy r js t1 0
+    none_needed z = needed_none r js t1 s shut first last h firsts lasts (λ j d. omega (arith, member_pos hit j ((hit_is j).1 d), z))
+
+    pub some_needed : (m : ℕ) → 0 < hit → hit < 2 ^ 32 → ((k : ℕ) → bit m k ≡ max (bit hit k) (one (eqb t1 k))) → NeededBy r js t1 m
+    some_needed m some few m_is =
+        let one_hit = some_member 32 hit some few in
+        needed_some r js t1 s shut first last h firsts lasts m one_hit.0 ((hit_is one_hit.0).0 one_hit.2) (λ j. let has = in_with hit m t1 m_is j in (
+          λ e. elim (has.0 e) [ inl d ↦ inl d | inr f ↦ inr ((hit_is j).0 f) ],
+          λ q. has.1 (elim q [ inl d ↦ inl d | inr f ↦ inr ((hit_is j).1 f) ]),
+        ))
 
 module _ (r : Rule) (js : Jobs r) where
   -- the jobs that need SSI because one of the first n jobs can be split

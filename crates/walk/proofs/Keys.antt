@@ -1,10 +1,11 @@
 -- The order of four numbers is the order of their keys; what the walk has passed is a range of keys with no danger in it.
 use mathlib.Core.Path.{◌≡◌, refl}
-use mathlib.Core.Logic.{◌↔◌, ◌⊎◌, inl, inr, ⊎_elim}
+use mathlib.Core.Logic.{◌⊎◌, inl, inr}
 use mathlib.Core.List.{[], ◌∷◌}
-use Prim.Native.Nat.{ℕ, suc, ◌+◌, ◌<◌, ◌≤◌}
+use Prim.Native.Nat.{ℕ, ◌+◌, ◌<◌, ◌≤◌}
 use native.Mathlib.Decide.{dec_lt}
 use native.Mathlib.Omega.{arith}
+use Rattle.std.proofs.lemmas.Bool.{cases_order}
 use Rattle.theory.specs.Danger.{Rule, Jobs, Guard, Danger}
 use Rattle.theory.specs.Shown.{Before}
 use Rattle.theory.specs.Walk as theory
@@ -12,45 +13,15 @@ use Rattle.theory.specs.Walk.{row, from_one_lem, Names, Next, Walks}
 use Rattle.walk.specs.Answers.{named}
 use Rattle.walk.specs.Starts.{key, key_at, Starts}
 use Rattle.walk.specs.declared.four.Four.{Four}
-use Rattle.walk.specs.declared.start.Start.{Start}
-
--- below, the same or above
-three : (a b : ℕ) → (a < b) ⊎ ((a ≡ b) ⊎ (b < a))
-three a b = elim (dec_lt a b) [ yes h ↦ inl h | no h ↦ inr (elim (dec_lt b a) [ yes l ↦ inr l | no l ↦ inl (omega (arith, h, l)) ]) ]
+use Rattle.walk.specs.declared.four.Indices.{Indices}
 
 -- ---- the order
 module _ (a b c d x y z w : ℕ) (small : (b < 256) × (c < 256) × (d < 256)) (small' : (y < 256) × (z < 256) × (w < 256)) where
   pub before_key : Before (a ∷ b ∷ c ∷ d ∷ []) (x ∷ y ∷ z ∷ w ∷ []) → key a b c d < key x y z w
-  before_key (inl h) = omega arith
-  before_key (inr (e, inl h)) = omega arith
-  before_key (inr (e, inr (e', inl h))) = omega arith
-  before_key (inr (e, inr (e', inr (e'', inl h)))) = omega arith
-  before_key (inr (e, inr (e', inr (e'', inr (e''', h))))) = absurd h
+  before_key h = grind arith
 
   pub key_before : key a b c d < key x y z w → Before (a ∷ b ∷ c ∷ d ∷ []) (x ∷ y ∷ z ∷ w ∷ [])
-  key_before h =
-      ⊎_elim inl (λ s₁. ⊎_elim (λ e₁. inr (
-        e₁,
-        ⊎_elim inl (λ s₂. ⊎_elim (λ e₂. inr (
-          e₂,
-          ⊎_elim inl (λ s₃. ⊎_elim (λ e₃. inr (e₃, inl (omega arith))) (λ m. absurd (omega arith)) s₃) (three c z),
-        ))
-            (λ m. absurd (omega arith)) s₂) (three b y),
-      ))
-      (λ m. absurd (omega arith)) s₁) (three a x)
-
--- ---- the start, by keys
-module _ (q : Four) (s : Start) (h : (q.b1 < 256) × (q.t2 < 256) × (q.tm < 256)) where
-  pub starts : (s.t < 256) × (s.b < 256) × (s.f < 256) × (s.l < 256)
-      → ((t b f l : ℕ) → b < 255 → f < 255 → l < 255 → (key q.t1 q.b1 q.t2 q.tm < key (suc t) (suc b) (suc f) (suc l)) ↔ (key_at s ≤ key t b f l))
-      → Starts q s
-  starts small e = record {
-    small = small;
-    above = λ t b f l yb yf yl. (
-      λ p. (e t b f l yb yf yl).0 (before_key _ _ _ _ _ _ _ _ h (omega arith) p),
-      λ p. key_before _ _ _ _ _ _ _ _ h (omega arith) ((e t b f l yb yf yl).1 p),
-    );
-  }
+  key_before h = grind arith
 
 -- ---- what the walk has passed, whatever a danger is
 module _ (D : ℕ → ℕ → ℕ → ℕ → Type 0) where
@@ -129,7 +100,7 @@ module _ (D : ℕ → ℕ → ℕ → ℕ → Type 0) where
 
 -- ---- the answer
 module _ (r : Rule) (g : Guard r) (js : Jobs r) (lv : ℕ → ℕ) (D : ℕ → ℕ → ℕ → ℕ → Type 0) (n : ℕ) (inside : Inside D n)
-    (all : (t b f l : ℕ) → Danger r g js lv t b f l → D t b f l) (q : Four) (s : Start) (e : Starts q s) where
+    (all : (t b f l : ℕ) → Danger r g js lv t b f l → D t b f l) (q : Four) (s : Indices) (e : Starts q s) where
   pub at_end : (t b f l : ℕ) → n ≤ t → Passed D (key_at s) t b f l → Walks r g js lv (named q) theory.end
   unfolding Clean
   at_end t b f l h x p (t', b', f', l', same, d) up =
@@ -152,8 +123,8 @@ module _ (r : Rule) (g : Guard r) (js : Jobs r) (lv : ℕ → ℕ) (D : ℕ → 
           let k = inside.known t b f l (all t b f l d) in
           let k' = inside.known t' b' f' l' (all t' b' f' l' d') in
           let from : key_at s ≤ key t' b' f' l' = (e.above t' b' f' l' (omega arith) (omega arith) (omega arith)).0 (rw is at up) in
-          rw is (elim (three (key t b f l) (key t' b' f' l')) [
-            | inl low ↦ inr (key_before _ _ _ _ _ _ _ _ (omega arith) (omega arith) (omega arith))
-            | inr (inl one) ↦ inl (same t' b' f' l' (omega arith) (omega arith) (omega arith) (omega arith))
+          rw is (elim (cases_order (key t b f l) (key t' b' f' l')) [
+            | inl one ↦ inl (same t' b' f' l' (omega arith) (omega arith) (omega arith) (omega arith))
+            | inr (inl low) ↦ inr (key_before _ _ _ _ _ _ _ _ (omega arith) (omega arith) (omega arith))
             | inr (inr high) ↦ absurd (x.clean t' b' f' l' (all t' b' f' l' d') from high)
           ])

@@ -1,11 +1,12 @@
 -- The pairs are written one after the other: what is found is what the chain shown has next.
-use mathlib.Core.Path.{◌≡◌, refl, sym, ap, ap₂, ◌∙◌}
+use mathlib.Core.Path.{◌≡◌, refl, sym, ap, ap₂, subst, ◌∙◌}
 use mathlib.Core.List.{List, [], ◌∷◌, ◌++◌, map, append_assoc}
-use Prim.Native.Nat.{ℕ, suc, ◌+◌, ◌*◌, ◌<◌, ◌≤◌}
+use Prim.Native.Nat.{ℕ, suc, ◌+◌, ◌-◌, ◌*◌, ◌<◌, ◌≤◌}
 use native.Mathlib.Numerals.{add-one}
 use native.Mathlib.Omega.{arith}
 use lib.Dec.{T, ltb, ltb→lt, lt→ltb}
-use lib.ListN.{length, get_or, drop, set, length-append}
+use Rattle.std.specs.Prelude.{◌↔◌, Option, Some, IsSome}
+use lib.ListN.{length, get_or, drop, set, length-append, length-map}
 use lib.Seq.{drop-cons, drop-drop, get_or-drop, set_at, append_snoc, drop-set-lt}
 use Rattle.theory.specs.Find.{every?}
 use Rattle.theory.proofs.FindLaws.{and_left, and_right, and_both}
@@ -16,6 +17,7 @@ use Rattle.theory.specs.Form1.{form1}
 use Rattle.theory.specs.Shown.{LowestPair, PairAt, Returns, Onward, Pairs}
 use Rattle.theory.proofs.PairLaws.{one_pair, pairs_count}
 use Rattle.theory.proofs.DistinctLaws.{pigeons}
+use Rattle.conflicts.specs.declared.pairs.Pair.{Pair}
 use Rattle.conflicts.specs.Pairs.{Fits, Partner, Paired}
 use Rattle.conflicts.specs.PairsLaws.{paired, any_conflict, returning, leaving}
 use Rattle.walk.specs.ShownIn.{ToPair, pair_row}
@@ -56,18 +58,37 @@ pub beyond_first : (before pairs : List ℕ) (k x y : ℕ) → 2 ≤ k → pairs
 beyond_first before pairs k x y h put =
     ap (drop k) put ∙ drop-set-lt k (set before (2 * 0) x) (2 * 0 + 1) y (omega arith) ∙ drop-set-lt k before (2 * 0) x (omega arith)
 
+-- ---- what was found
+is_there : {A : Type 0} (found : Option A) (a : A) → found ≡ Some a → IsSome found
+is_there found a is = rw is refl
+
+is_one : {A : Type 0} (found : Option A) (a b : A) → found ≡ Some a → found ≡ Some b → a ≡ b
+is_one found a b x y = cc
+
+-- where some pair will do, one is found, and it is the lowest
+module _ (P Q : ℕ → ℕ → Type 0) (same : (i j : ℕ) → P i j ↔ Q i j) (found : Option Pair) (q : ℕ × ℕ) (f : Paired P found) (fits : Q q.0 q.1) where
+  abbrev told : (p : Pair) × (found ≡ Some p) × (p.earlier < 16) × (p.later < 16) × LowestPair Q (p.earlier, p.later)
+  told = paired P Q same found q.0 q.1 f fits
+
+  pair_there : IsSome found
+  pair_there = is_there found told.0 told.1
+
+  pair_lowest : (p : Pair) → found ≡ Some p → (p.earlier < 16) × (p.later < 16) × LowestPair Q (p.earlier, p.later)
+  pair_lowest p is =
+      let t : (told.0.earlier < 16) × (told.0.later < 16) × LowestPair Q (told.0.earlier, told.0.later) = (told.2, told.3, told.4) in
+      rw (is_one found told.0 p told.1 is) at t
+
 -- ---- where the writing stands
-module _ {kind object chain : List ℕ} {level t1 b1 t2 n : ℕ} (w : ToPair kind object chain level t1 b1 t2 n) where
+module _ {kind object chain : List ℕ} {level t1 b1 t2 : ℕ} (w : ToPair kind object chain level t1 b1 t2) where
   -- `at` pairs are written and the pair from job `from` on is next
   pub record Going (at from : ℕ) (before pairs : List ℕ) : Type 0 where
     pub rest : List ℕ
     pub done : List (ℕ × ℕ)
     pub todo : List (ℕ × ℕ)
-    pub beyond : List ℕ
     pub onward : Onward form1 w.js w.lv t1 b1 from rest todo
     pub known : T (every? (λ j. ltb j (length w.js)) (from ∷ rest))
-    pub ahead : drop at chain ≡ map suc rest ++ beyond
-    pub left : at + length rest ≡ n
+    pub ahead : drop at chain ≡ map suc rest
+    pub left : at + length rest ≡ length chain
     pub wrote : length done ≡ at
     pub whole : w.ps ≡ done ++ todo
     pub row : pairs ≡ pair_row done ++ drop (2 * at) before
@@ -82,12 +103,15 @@ module _ {kind object chain : List ℕ} {level t1 b1 t2 n : ℕ} (w : ToPair kin
   split_known : t1 < length w.js
   split_known = t1_known form1 (Paper form1) w.js w.danger
 
+  long : length chain ≡ suc (length w.rest)
+  long = ap length w.jobs ∙ simp length-map
+
   -- T1 and the chain are distinct jobs of a sheet
-  pub few : n < 32
+  pub few : length chain < 32
   few =
       let c = w.shown.jobs.chain in
       let all : Known t1 (t2 ∷ w.rest) = and_both (ltb t1 (length w.js)) _ (lt→ltb t1 (length w.js) split_known) c.known in
-      omega (arith, w.count, w.laid.few, pigeons (length w.js) (t1 ∷ t2 ∷ w.rest) c.distinct all)
+      omega (arith, long, w.laid.few, pigeons (length w.js) (t1 ∷ t2 ∷ w.rest) c.distinct all)
 
   pub several : 2 ≤ 2 * length w.ps
   several = omega (arith, pairs_count form1 w.js w.lv t1 b1 t2 w.rest w.ps w.shown.pairs)
@@ -106,8 +130,10 @@ module _ {kind object chain : List ℕ} {level t1 b1 t2 n : ℕ} (w : ToPair kin
   from_known {from = i} g = known_small i g.rest g.known
 
   -- ---- b1 and its partner
-  module _ (a : ℕ) (f : Partner (Fits form1 w.js 16 t1 t2 b1) a) where
+  module _ (found : Option ℕ) (f : Partner (Fits form1 w.js 16 t1 t2 b1) found) where
     record First : Type 0 where
+      pub a : ℕ
+      pub is : found ≡ Some a
       pub small : a < 16
       pub todo : List (ℕ × ℕ)
       pub onward : Onward form1 w.js w.lv t1 b1 t2 w.rest todo
@@ -117,32 +143,40 @@ module _ {kind object chain : List ℕ} {level t1 b1 t2 n : ℕ} (w : ToPair kin
     first_of [] e p = absurd p
     first_of (q ∷ todo) e p =
         let leaves = p.0.fits in
-        let low = leaving form1 w.js w.laid.short w.lv t1 b1 t2 a q.1 f (rw leaves.0 at leaves.1) in
-        record { small = low.0; todo = todo; onward = p.1; whole = e ∙ ap (λ (x : ℕ × ℕ). x ∷ todo) (one_pair _ _ _ p.0 low.1) }
+        let low = leaving form1 w.js w.laid.short w.lv t1 b1 t2 found q.1 f (rw leaves.0 at leaves.1) in
+        record { a = low.0; is = low.1; small = low.2; todo = todo; onward = p.1; whole = e ∙ ap (λ (x : ℕ × ℕ). x ∷ todo) (one_pair _ _ _ p.0 low.3) }
 
     first : First
     first = first_of w.ps refl w.shown.pairs
 
-    pub partner_known : a < 16
-    partner_known = first.small
+    pub partner_there : IsSome found
+    partner_there = is_there found first.a first.is
 
-    pub begun : (before pairs : List ℕ) → length before ≡ 64 → pairs ≡ set (set before (2 * 0) (b1 + 1)) (2 * 0 + 1) (a + 1) → Going 1 t2 pairs pairs
-    begun before pairs full put = record {
-      rest = w.rest;
-      done = (b1, a) ∷ [];
-      todo = first.todo;
-      beyond = w.beyond;
-      onward = first.onward;
-      known = w.shown.jobs.chain.known;
-      ahead = ap (drop 1) w.jobs;
-      left = omega (arith, w.count);
-      wrote = refl;
-      whole = first.whole;
-      row = row_put [] 0 b1 a before before pairs full (omega arith) refl refl put ∙ ap (λ (r : List ℕ). suc b1 ∷ suc a ∷ r) (sym (beyond_first before pairs 2 _ _ (omega arith) put));
-    }
+    module _ (a : ℕ) (is : found ≡ Some a) where
+      one : first.a ≡ a
+      one = is_one found first.a a first.is is
+
+      pub partner_known : a < 16
+      partner_known = rw one at first.small
+
+      pub begun : (before pairs : List ℕ) → length before ≡ 64 → pairs ≡ set (set before (2 * 0) (b1 + 1)) (2 * 0 + 1) (a + 1) → Going 1 t2 pairs pairs
+      begun before pairs full put = record {
+        rest = w.rest;
+        done = (b1, a) ∷ [];
+        todo = first.todo;
+        onward = first.onward;
+        known = w.shown.jobs.chain.known;
+        ahead = ap (drop 1) w.jobs;
+        left = omega (arith, long);
+        wrote = refl;
+        whole = rw one at first.whole;
+        row =
+            row_put [] 0 b1 a before before pairs full (omega arith) refl refl put
+            ∙ ap (λ (r : List ℕ). suc b1 ∷ suc a ∷ r) (sym (beyond_first before pairs 2 _ _ (omega arith) put));
+      }
 
   -- ---- each job with the next
-  module _ {at from : ℕ} {before pairs : List ℕ} (g : Going at from before pairs) (h : at < n) where
+  module _ {at from : ℕ} {before pairs : List ℕ} (g : Going at from before pairs) (h : at < length chain) where
     record Link : Type 0 where
       pub j : ℕ
       pub rest : List ℕ
@@ -151,12 +185,12 @@ module _ {kind object chain : List ℕ} {level t1 b1 t2 n : ℕ} (w : ToPair kin
       pub low : LowestPair (PairAt form1 w.js (clash form1) from j) q
       pub onward : Onward form1 w.js w.lv t1 b1 j rest todo
       pub known : Known j rest
-      pub ahead : drop at chain ≡ suc j ∷ (map suc rest ++ g.beyond)
-      pub left : at + suc (length rest) ≡ n
+      pub ahead : drop at chain ≡ suc j ∷ map suc rest
+      pub left : at + suc (length rest) ≡ length chain
       pub whole : w.ps ≡ g.done ++ (q ∷ todo)
 
     link_of : (rest : List ℕ) (todo : List (ℕ × ℕ)) → Onward form1 w.js w.lv t1 b1 from rest todo → Known from rest
-        → drop at chain ≡ map suc rest ++ g.beyond → at + length rest ≡ n → w.ps ≡ g.done ++ todo → Link
+        → drop at chain ≡ map suc rest → at + length rest ≡ length chain → w.ps ≡ g.done ++ todo → Link
     link_of [] todo o k a l e = absurd (omega arith)
     link_of (j ∷ rest) [] o k a l e = absurd o
     link_of (j ∷ rest) (q ∷ todo) o k a l e = record {
@@ -181,9 +215,9 @@ module _ {kind object chain : List ℕ} {level t1 b1 t2 n : ℕ} (w : ToPair kin
     pub job_there : 0 < get_or chain at 0
     job_there = omega (arith, job_is)
 
-    module _ (to : ℕ) (is : to + 1 ≡ get_or chain at 0) where
+    module _ (to : ℕ) (to_is : to ≡ get_or chain at 0 - 1) where
       same : link.j ≡ to
-      same = omega (arith, job_is, is)
+      same = omega (arith, job_is, to_is)
 
       to_in : Known to link.rest
       to_in = rw same at link.known
@@ -191,40 +225,47 @@ module _ {kind object chain : List ℕ} {level t1 b1 t2 n : ℕ} (w : ToPair kin
       pub to_known : to < 32
       to_known = known_small to link.rest to_in
 
-      module _ (e l : ℕ) (f : Paired (Fits form1 w.js 0 from to) e l) where
-        low_to : LowestPair (PairAt form1 w.js (clash form1) from to) link.q
-        low_to = rw same at link.low
+      low_to : LowestPair (PairAt form1 w.js (clash form1) from to) link.q
+      low_to = rw same at link.low
 
-        found : (e < 16) × (l < 16) × LowestPair (PairAt form1 w.js (clash form1) from to) (e, l)
-        found = paired _ _ (any_conflict form1 w.js w.laid.short from to) e l link.q.0 link.q.1 f low_to.fits
+      module _ (found : Option Pair) (f : Paired (Fits form1 w.js 0 from to) found) where
+        pub link_there : IsSome found
+        link_there = pair_there _ _ (any_conflict form1 w.js w.laid.short from to) found link.q f low_to.fits
 
-        pub link_known : (e < 16) × (l < 16)
-        link_known = (found.0, found.1)
+        module _ (p : Pair) (is : found ≡ Some p) where
+          low : (p.earlier < 16) × (p.later < 16) × LowestPair (PairAt form1 w.js (clash form1) from to) (p.earlier, p.later)
+          low = pair_lowest _ _ (any_conflict form1 w.js w.laid.short from to) found link.q f low_to.fits p is
 
-        pub linked : (after : List ℕ) → length before ≡ 64 → after ≡ set (set pairs (2 * at) (e + 1)) (2 * at + 1) (l + 1) → Going (at + 1) to before after
-        linked after full put = record {
-          rest = link.rest;
-          done = g.done ++ ((e, l) ∷ []);
-          todo = link.todo;
-          beyond = g.beyond;
-          onward = rw same at link.onward;
-          known = to_in;
-          ahead = sym (drop-drop 1 at chain) ∙ ap (drop 1) link.ahead;
-          left = omega (arith, link.left);
-          wrote = simp length-append (omega (arith, g.wrote));
-          whole = link.whole ∙ ap (λ (x : ℕ × ℕ). g.done ++ (x ∷ link.todo)) (one_pair _ _ _ low_to found.2) ∙ sym (append_snoc g.done (e, l) link.todo);
-          row = row_put g.done at e l before pairs after full (omega (arith, few)) g.wrote g.row put;
-        }
+          pub link_known : (p.earlier < 16) × (p.later < 16)
+          link_known = (low.0, low.1)
+
+          pub linked : (after : List ℕ) → length before ≡ 64 → after ≡ set (set pairs (2 * at) (p.earlier + 1)) (2 * at + 1) (p.later + 1) → Going (at + 1) to before after
+          linked after full put = record {
+            rest = link.rest;
+            done = g.done ++ ((p.earlier, p.later) ∷ []);
+            todo = link.todo;
+            onward = rw same at link.onward;
+            known = to_in;
+            ahead = sym (drop-drop 1 at chain) ∙ ap (drop 1) link.ahead;
+            left = omega (arith, link.left);
+            wrote = simp length-append (omega (arith, g.wrote));
+            whole = link.whole ∙ ap (λ (x : ℕ × ℕ). g.done ++ (x ∷ link.todo)) (one_pair _ _ _ low_to low.2) ∙ sym (append_snoc g.done (p.earlier, p.later) link.todo);
+            row = row_put g.done at p.earlier p.later before pairs after full (omega (arith, few)) g.wrote g.row put;
+          }
 
   -- ---- the last job with T1
-  module _ {at from : ℕ} {before pairs : List ℕ} (g : Going at from before pairs) (h : n ≤ at) (any e l : ℕ)
-      (low : level < 1 → any ≡ suc b1) (high : 1 ≤ level → any ≡ 16) (f : Paired (Fits form1 w.js any from t1) e l) where
+  -- all links are written where as many pairs are as the chain has jobs
+  pub at_last : {at from : ℕ} {before pairs : List ℕ} → Going at from before pairs → length chain ≤ at → Going (length chain) from before pairs
+  at_last {at = at} {from} {before} {pairs} g h = subst (λ (k : ℕ). Going k from before pairs) (omega (arith, g.left)) g
+
+  module _ {from : ℕ} {before pairs : List ℕ} (g : Going (length chain) from before pairs) (any : ℕ)
+      (five : (level < 1 → any ≡ suc b1) × (1 ≤ level → any ≡ 16)) (found : Option Pair) (f : Paired (Fits form1 w.js any from t1) found) where
     record Back : Type 0 where
       pub q : ℕ × ℕ
       pub lowest : LowestPair (Returns form1 w.js w.lv t1 b1 from) q
       pub whole : w.ps ≡ g.done ++ (q ∷ [])
 
-    back_of : (rest : List ℕ) (todo : List (ℕ × ℕ)) → Onward form1 w.js w.lv t1 b1 from rest todo → at + length rest ≡ n → w.ps ≡ g.done ++ todo → Back
+    back_of : (rest : List ℕ) (todo : List (ℕ × ℕ)) → Onward form1 w.js w.lv t1 b1 from rest todo → length chain + length rest ≡ length chain → w.ps ≡ g.done ++ todo → Back
     back_of [] [] o m e' = absurd o
     back_of [] (q ∷ []) o m e' = record { q = q; lowest = o; whole = e' }
     back_of [] (q ∷ p ∷ todo) o m e' = absurd o
@@ -233,18 +274,23 @@ module _ {kind object chain : List ℕ} {level t1 b1 t2 n : ℕ} (w : ToPair kin
     back : Back
     back = back_of g.rest g.todo g.onward g.left g.whole
 
-    found_back : (e < 16) × (l < 16) × LowestPair (Returns form1 w.js w.lv t1 b1 from) (e, l)
-    found_back =
-        paired _ _ (returning form1 w.js w.laid.short w.lv t1 b1 from any (λ q. low (omega (arith, w.same_level))) (λ q. high (omega (arith, w.same_level))))
-        e l back.q.0 back.q.1 f back.lowest.fits
+    condition_5 : (b a : ℕ) → Fits form1 w.js any from t1 b a ↔ Returns form1 w.js w.lv t1 b1 from b a
+    condition_5 = returning form1 w.js w.laid.short w.lv t1 b1 from any (λ q. five.0 (omega (arith, w.same_level))) (λ q. five.1 (omega (arith, w.same_level)))
 
-    pub back_known : (e < 16) × (l < 16)
-    back_known = (found_back.0, found_back.1)
+    pub back_there : IsSome found
+    back_there = pair_there _ _ condition_5 found back.q f back.lowest.fits
 
-    pub finished : (after : List ℕ) → length before ≡ 64 → after ≡ set (set pairs (2 * at) (e + 1)) (2 * at + 1) (l + 1)
-        → after ≡ pair_row w.ps ++ drop (2 * length w.ps) before
-    finished after full put =
-        let all : w.ps ≡ g.done ++ ((e, l) ∷ []) = back.whole ∙ ap (λ (x : ℕ × ℕ). g.done ++ (x ∷ [])) (one_pair _ _ _ back.lowest found_back.2) in
-        let many : at + 1 ≡ length w.ps = sym (ap length all ∙ simp length-append (omega (arith, g.wrote))) in
-        row_put g.done at e l before pairs after full (omega (arith, few, g.left)) g.wrote g.row put
-        ∙ ap₂ (λ (x : List (ℕ × ℕ)) (k : ℕ). pair_row x ++ drop (2 * k) before) (sym all) many
+    module _ (p : Pair) (is : found ≡ Some p) where
+      low_back : (p.earlier < 16) × (p.later < 16) × LowestPair (Returns form1 w.js w.lv t1 b1 from) (p.earlier, p.later)
+      low_back = pair_lowest _ _ condition_5 found back.q f back.lowest.fits p is
+
+      pub back_known : (p.earlier < 16) × (p.later < 16)
+      back_known = (low_back.0, low_back.1)
+
+      pub finished : (after : List ℕ) → length before ≡ 64 → after ≡ set (set pairs (2 * length chain) (p.earlier + 1)) (2 * length chain + 1) (p.later + 1)
+          → after ≡ pair_row w.ps ++ drop (2 * length w.ps) before
+      finished after full put =
+          let all : w.ps ≡ g.done ++ ((p.earlier, p.later) ∷ []) = back.whole ∙ ap (λ (x : ℕ × ℕ). g.done ++ (x ∷ [])) (one_pair _ _ _ back.lowest low_back.2) in
+          let many : length chain + 1 ≡ length w.ps = sym (ap length all ∙ simp length-append (omega (arith, g.wrote))) in
+          row_put g.done (length chain) p.earlier p.later before pairs after full few g.wrote g.row put
+          ∙ ap₂ (λ (x : List (ℕ × ℕ)) (k : ℕ). pair_row x ++ drop (2 * k) before) (sym all) many

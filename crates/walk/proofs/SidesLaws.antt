@@ -1,5 +1,5 @@
 -- The sets of first and of last jobs hold what their definitions ask.
-use mathlib.Core.Path.{◌≡◌, refl, sym, ap, ◌∙◌}
+use mathlib.Core.Path.{◌≡◌, sym, ◌∙◌}
 use mathlib.Core.Bool.{true, false}
 use mathlib.Core.Logic.{inl, inr}
 use mathlib.Core.List.{List}
@@ -8,17 +8,13 @@ use native.Mathlib.Omega.{arith}
 use borrow.Author.Tests.{eqb-true, eqb-false}
 use lib.Dec.{eqb}
 use Rattle.jobset.specs.Jobset.{bit, one}
-use Rattle.jobset.specs.JobsetLaws.{bit_lt, bit_none, digit, single_is, single_has}
+use Rattle.jobset.specs.JobsetLaws.{bit_lt, digit, member_pos, single_is, single_has}
 use Rattle.chain.specs.Paths.{Joined}
 use Rattle.walk.specs.Sides.{Firsts, Goes, Lasts}
 
--- an empty set has no job
-pub empty : {A : Type 0} (m k : ℕ) → m ≡ 0 → bit m k ≡ 1 → A
-empty m k none e = absurd (omega (arith, bit_none k, ap (λ (x : ℕ). bit x k) none))
-
 module _ (clash : List ℕ) (shut first last : ℕ) where
   pub firsts_none : first ≡ 0 → Firsts clash shut first last 0
-  firsts_none none = record { sound = λ k e. empty 0 k refl e; whole = λ j k c e h p. empty first k none e }
+  firsts_none none = record { sound = λ k e. absurd (omega (arith, member_pos 0 k e)); whole = λ j k c e h p. absurd (omega (arith, member_pos first k e)) }
 
   pub firsts_some : (all r : ℕ) → Joined clash shut last all → ((k : ℕ) → bit r k ≡ min (bit first k) (bit all k)) → Firsts clash shut first last r
   firsts_some all r w both = record {
@@ -28,7 +24,7 @@ module _ (clash : List ℕ) (shut first last : ℕ) where
 
 module _ (clash : List ℕ) (shut watch firsts last f : ℕ) where
   pub lasts_none : eqb (bit firsts f) 1 ≡ false → Lasts clash shut watch firsts last f 0
-  lasts_none none = record { sound = λ k e. empty 0 k refl e; whole = λ k g. absurd (eqb-false (bit firsts f) 1 none g.first) }
+  lasts_none none = record { sound = λ k e. absurd (omega (arith, member_pos 0 k e)); whole = λ k g. absurd (eqb-false (bit firsts f) 1 none g.first) }
 
   pub lasts_some : (left from all r : ℕ) → eqb (bit firsts f) 1 ≡ true → ((k : ℕ) → bit left k ≡ bit last k - min (bit watch f) (bit watch k))
       → ((k : ℕ) → bit from k ≡ one (eqb f k)) → Joined clash shut from all → ((k : ℕ) → bit r k ≡ min (bit left k) (bit all k)) → Lasts clash shut watch firsts last f r

@@ -17,7 +17,9 @@ use Rattle.theory.specs.Form1.{form1}
 use Rattle.theory.specs.Lowest.{level}
 use Rattle.theory.specs.Walk as theory
 use Rattle.theory.specs.Walk.{Walks, from_one_lem}
-use Rattle.conflicts.specs.Sets.{Sets, Has}
+use Rattle.conflicts.specs.Sets.{Has}
+use Rattle.conflicts.specs.SetsOf.{SetsOf}
+use Rattle.conflicts.specs.declared.sets.Sets as declared
 use Rattle.splits.specs.Splits.{watch?, shut?, Splits}
 use Rattle.splits.proofs.HasLaws.{has_in}
 use Rattle.splits.proofs.JoinedLaws.{danger_joined, path_back}
@@ -25,7 +27,7 @@ use Rattle.walk.specs.Answers.{named}
 use Rattle.walk.specs.Sides.{Firsts, Lasts}
 use Rattle.walk.specs.Starts.{key_at, Starts}
 use Rattle.walk.specs.declared.four.Four.{Four}
-use Rattle.walk.specs.declared.start.Start.{Start}
+use Rattle.walk.specs.declared.four.Indices.{Indices}
 use Rattle.walk.proofs.Keys.{Inside, Passed, pass_one, pass_first, pass_operation, pass_job, at_end, at_found}
 
 -- ---- the levels of the first jobs; what stands behind them does not matter
@@ -51,34 +53,22 @@ module _ (jobs : ℕ) (levels : List ℕ) where
       both k ∙ ap (λ (x : ℕ). min (one (leb 2 (level levels t))) x) (all k ∙ ap one (at_ssi_lem (ltb k jobs) (level levels k)))
       ∙ ap (λ (x : ℕ). min (one (leb 2 x)) (one (leb 2 (level_of_lem k)))) (sym (level_of_is t h)) ∙ sym (one_and (leb 2 (level_of_lem t)) (leb 2 (level_of_lem k)))
 
--- The tables that the walk looks at.
-pub record Tables : Type 0 where
-  pub jobs : ℕ
-  pub kind : List ℕ
-  pub writers : List ℕ
-  pub ww : List ℕ
-  pub rw : List ℕ
-  pub wr : List ℕ
-  pub clash : List ℕ
-  pub levels : List ℕ
-
-module _ (s : Tables) where
-  -- the jobs that the tables belong to
-  abbrev pub Of : Jobs form1 → Type 0
-  Of js = Sets form1 js s.kind s.writers s.ww s.rw s.wr s.clash
+module _ (s : declared.Sets) (levels : List ℕ) where
+  abbrev jobs : ℕ
+  jobs = s.table.now.jobs
 
   abbrev lv : ℕ → ℕ
-  lv = level_of_lem s.jobs s.levels
+  lv = level_of_lem jobs levels
 
-  -- four numbers, counted from 0, are a danger of some jobs that the tables belong to
+  -- four numbers, counted from 0, are a danger of some jobs that the sets belong to
   unfoldable pub DangerAt : ℕ → ℕ → ℕ → ℕ → Type 0
-  DangerAt t b f l = (js : Jobs form1) × Of js × (length js ≡ s.jobs) × Danger form1 (Paper form1) js lv t b f l
+  DangerAt t b f l = (js : Jobs form1) × SetsOf js s × (length js ≡ jobs) × Danger form1 (Paper form1) js lv t b f l
 
-  inside : Inside DangerAt s.jobs
+  inside : Inside DangerAt jobs
   unfolding DangerAt
   inside = record { known = known }
     where
-      known : (t b f l : ℕ) → DangerAt t b f l → (t < s.jobs) × (b < 16) × (f < 32) × (l < 32)
+      known : (t b f l : ℕ) → DangerAt t b f l → (t < jobs) × (b < 16) × (f < 32) × (l < 32)
       known t b f l (js, of, n, d) =
           let t_in = t1_known form1 (Paper form1) js d in
           let b_in = b1_known form1 (Paper form1) js d in
@@ -90,8 +80,8 @@ module _ (s : Tables) where
   pub record Ready (t : ℕ) (first last : List ℕ) (shut watch : ℕ) : Type 0 where
     pub known : t < 32
     pub ssi : Has watch (watch? lv t)
-    pub closed : (js : Jobs form1) → Of js → Has shut (shut? form1 js t)
-    pub splits : (js : Jobs form1) → Of js → Splits form1 js lv t first last
+    pub closed : (js : Jobs form1) → SetsOf js s → Has shut (shut? form1 js t)
+    pub splits : (js : Jobs form1) → SetsOf js s → Splits form1 js lv t first last
 
   module _ (t b f l : ℕ) {first last : List ℕ} {shut watch : ℕ} (ready : Ready t first last shut watch) (hb : b < 16)
       (firsts : ℕ) (w : Firsts s.clash shut (get_or first b 0) (get_or last b 0) firsts) where
@@ -119,7 +109,7 @@ module _ (s : Tables) where
           })
 
       -- and what goes with a first job is a danger
-      last_right : bit lasts l ≡ 1 → (js : Jobs form1) → Of js → Danger form1 (Paper form1) js lv t b f l
+      last_right : bit lasts l ≡ 1 → (js : Jobs form1) → SetsOf js s → Danger form1 (Paper form1) js lv t b f l
       last_right e js of =
           let g = v.sound l e in
           (danger_joined form1 js of t shut (ready.closed js of) lv b f l).1 (
@@ -135,40 +125,40 @@ module _ (s : Tables) where
     pub next_last : (lasts : ℕ) → Lasts s.clash shut watch firsts (get_or last b 0) f lasts → l < 32 → eqb (bit lasts l) 1 ≡ false
         → Passed DangerAt i t b f l → Passed DangerAt i t b f (l + 1)
     next_last lasts v hl out x =
-        pass_one DangerAt s.jobs inside i t b f l x hl (λ d. eqb-false (bit lasts l) 1 out (last_there t b f l ready hb firsts w lasts v d))
+        pass_one DangerAt jobs inside i t b f l x hl (λ d. eqb-false (bit lasts l) 1 out (last_there t b f l ready hb firsts w lasts v d))
 
     pub next_first : (lasts end : ℕ) → Lasts s.clash shut watch firsts (get_or last b 0) f lasts → f < 32 → ((k : ℕ) → bit lasts k ≡ 1 → k < end) → end ≤ l
         → Passed DangerAt i t b f l → Passed DangerAt i t b (f + 1) 0
     next_first lasts end v hf within over x =
-        pass_first DangerAt s.jobs inside i t b f l x hf (λ m h d. omega (arith, within m (last_there t b f m ready hb firsts w lasts v d)))
+        pass_first DangerAt jobs inside i t b f l x hf (λ m h d. omega (arith, within m (last_there t b f m ready hb firsts w lasts v d)))
 
     pub next_operation : (end : ℕ) → ((k : ℕ) → bit firsts k ≡ 1 → k < end) → end ≤ f → Passed DangerAt i t b f l → Passed DangerAt i t (b + 1) 0 0
     next_operation end within over x =
-        pass_operation DangerAt s.jobs inside i t b f l x hb (λ k m h d. omega (arith, within k (first_there t b k m ready hb firsts w d)))
+        pass_operation DangerAt jobs inside i t b f l x hb (λ k m h d. omega (arith, within k (first_there t b k m ready hb firsts w d)))
 
   pub next_job : (i t b f l : ℕ) → 16 ≤ b → Passed DangerAt i t b f l → Passed DangerAt i (t + 1) 0 0 0
-  next_job i t b f l over x = pass_job DangerAt s.jobs inside i t b f l x over
+  next_job i t b f l over x = pass_job DangerAt jobs inside i t b f l x over
 
   -- ---- the answer
-  module _ (q : Four) (from : Start) (e : Starts q from) (js : Jobs form1) (of : Of js) (n : length js ≡ s.jobs) where
+  module _ (q : Four) (from : Indices) (e : Starts q from) (js : Jobs form1) (of : SetsOf js s) (n : length js ≡ jobs) where
     -- only the levels of the sheet's jobs matter
-    under : (A B : ℕ → ℕ) → ((k : ℕ) → k < s.jobs → A k ≡ B k) → (t b f l : ℕ) → Danger form1 (Paper form1) js B t b f l → Danger form1 (Paper form1) js A t b f l
+    under : (A B : ℕ → ℕ) → ((k : ℕ) → k < jobs → A k ≡ B k) → (t b f l : ℕ) → Danger form1 (Paper form1) js B t b f l → Danger form1 (Paper form1) js A t b f l
     under A B same t b f l d = paper_same form1 js A B t b f l
         (same t (omega (arith, t1_known form1 (Paper form1) js d)))
         (same f (omega (arith, t2_known form1 (Paper form1) js d)))
         (same l (omega (arith, tm_known form1 (Paper form1) js d))) d
 
-    all : (t b f l : ℕ) → Danger form1 (Paper form1) js (level s.levels) t b f l → DangerAt t b f l
+    all : (t b f l : ℕ) → Danger form1 (Paper form1) js (level levels) t b f l → DangerAt t b f l
     unfolding DangerAt
-    all t b f l d = (js, of, n, under lv (level s.levels) (level_of_is s.jobs s.levels) t b f l d)
+    all t b f l d = (js, of, n, under lv (level levels) (level_of_is jobs levels) t b f l d)
 
-    pub ends : (t b f l : ℕ) → s.jobs ≤ t → Passed DangerAt (key_at from) t b f l → Walks form1 (Paper form1) js (level s.levels) (named q) theory.end
-    ends = at_end form1 (Paper form1) js (level s.levels) DangerAt s.jobs inside all q from e
+    pub ends : (t b f l : ℕ) → jobs ≤ t → Passed DangerAt (key_at from) t b f l → Walks form1 (Paper form1) js (level levels) (named q) theory.end
+    ends = at_end form1 (Paper form1) js (level levels) DangerAt jobs inside all q from e
 
     pub finds : (t b f l : ℕ) {first last : List ℕ} {shut watch : ℕ} → Ready t first last shut watch → b < 16
         → (firsts : ℕ) → Firsts s.clash shut (get_or first b 0) (get_or last b 0) firsts → (lasts : ℕ) → Lasts s.clash shut watch firsts (get_or last b 0) f lasts
-        → eqb (bit lasts l) 1 ≡ true → Passed DangerAt (key_at from) t b f l → Walks form1 (Paper form1) js (level s.levels) (named q) (theory.found (from_one_lem t b f l))
+        → eqb (bit lasts l) 1 ≡ true → Passed DangerAt (key_at from) t b f l → Walks form1 (Paper form1) js (level levels) (named q) (theory.found (from_one_lem t b f l))
     finds t b f l ready hb firsts w lasts v is x =
         let d = last_right t b f l ready hb firsts w lasts v (eqb-true (bit lasts l) 1 is) js of in
-        at_found form1 (Paper form1) js (level s.levels) DangerAt s.jobs inside all q from e t b f l
-        (under (level s.levels) lv (λ k h. sym (level_of_is s.jobs s.levels k h)) t b f l d) x
+        at_found form1 (Paper form1) js (level levels) DangerAt jobs inside all q from e t b f l
+        (under (level levels) lv (λ k h. sym (level_of_is jobs levels k h)) t b f l d) x

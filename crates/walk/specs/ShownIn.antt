@@ -34,8 +34,8 @@ pub record ShownIn (js : Jobs form1) (lv : ℕ → ℕ) (t1 b1 t2 tm : ℕ) (cha
   pub jobs : chain ≡ map suc (t2 ∷ rest) ++ drop n chain₀
   pub operations : pairs ≡ pair_row ps ++ drop (2 * length ps) pairs₀
 
--- The same, with the jobs already in their array and the pairs still to be written.
-pub record ToPair (kind object chain : List ℕ) (level t1 b1 t2 n : ℕ) : Type 0 where
+-- The same, with the jobs already written and the pairs still to be.
+pub record ToPair (kind object chain : List ℕ) (level t1 b1 t2 : ℕ) : Type 0 where
   pub js : Jobs form1
   pub lv : ℕ → ℕ
   pub laid : Laid kind object js
@@ -44,7 +44,5 @@ pub record ToPair (kind object chain : List ℕ) (level t1 b1 t2 n : ℕ) : Type
   pub danger : Danger form1 (Paper form1) js lv t1 b1 t2 tm
   pub rest : List ℕ
   pub ps : List (ℕ × ℕ)
-  pub beyond : List ℕ
   pub shown : Shown form1 js lv t1 b1 t2 tm rest ps
-  pub count : n ≡ suc (length rest)
-  pub jobs : chain ≡ map suc (t2 ∷ rest) ++ beyond
+  pub jobs : chain ≡ map suc (t2 ∷ rest)

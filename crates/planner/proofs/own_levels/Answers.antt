@@ -1,29 +1,26 @@
+use Rattle.std.proofs.Common.{◌≡◌, Err, rules}
 use native.Mathlib.Omega.{arith}
-use Rattle.sheet.specs.AnswerLaws.{answer_read, answer_refused, answer_table}
+use Rattle.sheet.specs.AnswerLaws.{answer_table}
 use Rattle.planner.specs.Questions.{Copies}
-use Rattle.planner.proofs.CheckLaws.{passed_room}
-use Rattle.planner.proofs.AnswerLaws.{sheet_refused, check_refused, by_room, ready, buffer_kept, buffer_filled, levels_copied}
+use Rattle.planner.proofs.AnswerLaws.{by_room, ready, room_asked, levels_copied, buffer_kept, buffer_filled}
 use Rattle.planner.proofs.own_levels.Goals as goal
-
-pub returns-in-Refused : goal.returns-in-Refused
-returns-in-Refused c =
-    buffer_kept Copies _ _ c.in-Refused.r (sheet_refused _ _ c.in-Refused.r (answer_refused _ _ c.read_sheet-read.ensures c.in-Refused.r c.in-Refused.is))
-
-pub returns-in-Refused-checked : goal.returns-in-Refused-checked
-returns-in-Refused-checked c =
-    buffer_kept Copies _ _ c.in-Refused-checked.r
-    (check_refused (by_room _) _ _ (answer_read _ _ c.read_sheet-read.ensures c.in_default.is)
-    _ c.check_room-checked.ensures c.in-Refused-checked.r c.in-Refused-checked.is)
 
 pub copy_levels-requires : goal.copy_levels-requires
 copy_levels-requires c =
-    let r = ready (by_room _) _ _ c.read_sheet-read.ensures c.in_default.is _ c.check_room-checked.ensures c.in_default-checked.is in
-    (omega (arith, r.known.level_length, r.known.operations.jobs_most), passed_room _ _ r.met)
+    let r = ready (by_room _) _ _ c.read_sheet-read.ensures c.in_ok-check_with_room.ensures in
+    let asked = room_asked _ _ _ r in
+    (asked.0, asked.2)
 
-pub overflow_cast-number : goal.overflow_cast-number
-overflow_cast-number c = record { fits = omega (arith, (answer_table _ _ c.read_sheet-read.ensures).operations.jobs_most) }
+pub overflow_cast-result : goal.overflow_cast-result
+overflow_cast-result c = omega (arith, (answer_table _ _ c.read_sheet-read.ensures).operations.jobs_most)
 
 pub returns : goal.returns
 returns c =
-    let r = ready (by_room _) _ _ c.read_sheet-read.ensures c.in_default.is _ c.check_room-checked.ensures c.in_default-checked.is in
+    let r = ready (by_room _) _ _ c.read_sheet-read.ensures c.in_ok-check_with_room.ensures in
     buffer_filled Copies _ _ _ r _ _ (levels_copied _ _ _ _ r c.copy_levels.ensures)
+
+pub returns-in_err-check_with_room : goal.returns-in_err-check_with_room
+returns-in_err-check_with_room c =
+    let err = c.in_err-check_with_room in
+    let is : c.from_residual.result ≡ Err err.field-0.0 = search rules in
+    rw is (buffer_kept Copies _ _ _ (err.ensures _ c.read_sheet-read.ensures))

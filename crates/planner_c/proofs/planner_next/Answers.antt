@@ -1,31 +1,18 @@
-use mathlib.Core.Path.{refl}
-use native.Mathlib.Omega.{arith}
+use Rattle.std.proofs.Common.{◌≡◌, refl, Some, Ok, rules}
 use Rattle.planner_c.specs.PlaceLaws.{next_near}
-use Rattle.planner_c.specs.ReplyLaws.{next_few}
 use Rattle.planner_c.proofs.NextLaws.{next_reply}
 use Rattle.planner_c.proofs.planner_next.Goals as goal
 
-pub overflow_cast-result : goal.overflow_cast-result
-overflow_cast-result c =
-    let next = c.next_danger-answer in
-    omega (arith, next_few _ _ _ next.result c.in-Found.danger next.ensures c.in-Found.is)
-
 pub code-requires : goal.code-requires
-code-requires c =
-    let next = c.next_danger-answer in
-    next_near _ _ _ next.result c.in-Refused.r next.ensures c.in-Refused.is
+code-requires c = next_near _ _ _ _ c.in-Err.r c.next_danger-answer.ensures c.in-Err.is
 
-pub returns-in-Found : goal.returns-in-Found
-returns-in-Found c =
+pub returns-in-Ok-Some : goal.returns-in-Ok-Some
+returns-in-Ok-Some c =
     let next = c.next_danger-answer in
-    next_reply _ _ _ _ _ _ next.result next.ensures _ c.in-Found.is refl c.show.ensures
+    let is : next.result.walk ≡ Ok (Some c.in-Ok-Some.danger) = search rules in
+    next_reply _ _ _ _ _ _ next.result next.ensures _ is refl c.show.ensures
 
-pub returns-in-End : goal.returns-in-End
-returns-in-End c =
+pub returns-in-Err : goal.returns-in-Err
+returns-in-Err c =
     let next = c.next_danger-answer in
-    next_reply _ _ _ _ _ _ next.result next.ensures _ c.in-End.is refl refl
-
-pub returns-in-Refused : goal.returns-in-Refused
-returns-in-Refused c =
-    let next = c.next_danger-answer in
-    next_reply _ _ _ _ _ _ next.result next.ensures _ c.in-Refused.is c.code.ensures refl
+    next_reply _ _ _ _ _ _ next.result next.ensures _ c.in-Err.is c.code.ensures refl

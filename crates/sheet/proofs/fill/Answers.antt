@@ -1,44 +1,41 @@
 use native.Mathlib.Omega.{arith}
 use mathlib.Core.Path.{◌∙◌}
-use Rattle.sheet.proofs.FillLaws.{jobs_from_none, head_is, jobs_lie, end_is, sheet_head, sheet_jobs, sheet_end, sheet_after, sheet_filled}
+use Rattle.sheet.proofs.FoundLaws.{refused_is, passed_is}
+use Rattle.sheet.proofs.FillLaws.{from_none, sheet_head, head_is, sheet_jobs, jobs_lie, sheet_end, end_is, sheet_after, sheet_filled}
 use Rattle.sheet.proofs.fill.Goals as goal
 
-pub returns-in_default : goal.returns-in_default
-returns-in_default c = sheet_head _ _ c.head-h.ensures _ _ _ _ _ c.in_default.is
+pub returns-in_err-declared : goal.returns-in_err-declared
+returns-in_err-declared c = passed_is _ _ _ _ c.from_residual.ensures (sheet_head _ _ c.in_err-declared.ensures)
 
-pub returns-in_default-f : goal.returns-in_default-f
-returns-in_default-f c =
-    sheet_jobs _ _ c.head-h.ensures _ c.in-Number.is _ _ _ _ _ (c.jobs-f.ensures ∙ jobs_from_none _ _ _ _ _ _ _ c.word-objects.ensures.0 c.requires) _ c.in_default-f.is
+pub jobs-requires : goal.jobs-requires
+jobs-requires c =
+    let h = head_is _ _ _ c.in_ok-declared.ensures in
+    (h.jobs_in, h.long)
 
-pub whole-e-requires : goal.whole-e-requires
-whole-e-requires c =
-    jobs_lie _ _ c.head-h.ensures _ c.in-Number.is _ _ _ _ _ (c.jobs-f.ensures ∙ jobs_from_none _ _ _ _ _ _ _ c.word-objects.ensures.0 c.requires) _ c.in-Number-f.is
+pub returns-in_err-at : goal.returns-in_err-at
+returns-in_err-at c =
+    passed_is _ _ _ _ c.from_residual-in_err-at.ensures
+    (sheet_jobs _ _ _ c.in_ok-declared.ensures _ (c.in_err-at.ensures.0 ∙ from_none _ _ _ _ c.requires))
 
-pub returns-in_default-e : goal.returns-in_default-e
-returns-in_default-e c =
-    sheet_end _ _ c.head-h.ensures _ c.in-Number.is _ _ _ _ _ (c.jobs-f.ensures ∙ jobs_from_none _ _ _ _ _ _ _ c.word-objects.ensures.0 c.requires) _ c.in-Number-f.is _ c.whole-e.ensures _ c.in_default-e.is
+pub whole-requires : goal.whole-requires
+whole-requires c = jobs_lie _ _ _ c.in_ok-declared.ensures _ c.jobs.new.table (c.in_ok-at.ensures.0 ∙ from_none _ _ _ _ c.requires)
+
+pub returns-in_err-whole : goal.returns-in_err-whole
+returns-in_err-whole c =
+    passed_is _ _ _ _ c.from_residual-in_err-whole.ensures
+    (sheet_end _ _ _ c.in_ok-declared.ensures _ c.jobs.new.table (c.in_ok-at.ensures.0 ∙ from_none _ _ _ _ c.requires) _ c.in_err-whole.ensures)
 
 pub overflow_add-at : goal.overflow_add-at
 overflow_add-at c =
-    let w = end_is _ _ c.head-h.ensures _ c.in-Number.is _ _ _ _ _ (c.jobs-f.ensures ∙ jobs_from_none _ _ _ _ _ _ _ c.word-objects.ensures.0 c.requires) _ c.in-Number-f.is _ c.whole-e.ensures _ c.in-Number-e.is in
+    let w = end_is _ _ _ c.in_ok-declared.ensures _ c.jobs.new.table (c.in_ok-at.ensures.0 ∙ from_none _ _ _ _ c.requires) _ c.in_ok-whole.ensures in
     omega (arith, w.within, c.well_formed.0)
 
 pub returns-then-at-s : goal.returns-then-at-s
 returns-then-at-s c =
-    sheet_after _ _ c.head-h.ensures _ c.in-Number.is _ _ _ _ _ (c.jobs-f.ensures ∙ jobs_from_none _ _ _ _ _ _ _ c.word-objects.ensures.0 c.requires) _ c.in-Number-f.is _ c.whole-e.ensures _ c.in-Number-e.is
-    _ c.refuse.ensures c.if-at-s.true
+    refused_is _ _ _ _ c.refuse.ensures
+    (sheet_after _ _ _ c.in_ok-declared.ensures _ c.jobs.new.table (c.in_ok-at.ensures.0 ∙ from_none _ _ _ _ c.requires) _ c.in_ok-whole.ensures c.if-at-s.true)
 
 pub returns : goal.returns
 returns c =
-    sheet_filled _ _ c.head-h.ensures _ c.in-Number.is _ _ _ _ _ (c.jobs-f.ensures ∙ jobs_from_none _ _ _ _ _ _ _ c.word-objects.ensures.0 c.requires) _ c.in-Number-f.is _ c.whole-e.ensures _ c.in-Number-e.is
-    c.if-at-s.false
-
-pub word-objects-requires : goal.word-objects-requires
-word-objects-requires c =
-    let h = head_is _ _ c.head-h.ensures _ c.in-Number.is in
-    omega (arith, h.long)
-
-pub jobs-f-requires : goal.jobs-f-requires
-jobs-f-requires c =
-    let h = head_is _ _ c.head-h.ensures _ c.in-Number.is in
-    (h.jobs_in, omega (arith, h.long))
+    let t = c.in_ok-at.ensures in
+    sheet_filled _ _ _ c.in_ok-declared.ensures _ c.jobs.new.table (t.0 ∙ from_none _ _ _ _ c.requires) _ c.in_ok-whole.ensures c.if-at-s.false t.1.0 t.1.1

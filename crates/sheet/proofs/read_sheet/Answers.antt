@@ -1,11 +1,9 @@
-use Rattle.sheet.proofs.FillLaws.{answer_refused, answer_read, sheet_long}
+use mathlib.Core.Path.{sym}
+use Rattle.sheet.proofs.FillLaws.{answer_refused, answer_read}
 use Rattle.sheet.proofs.read_sheet.Goals as goal
 
-pub word-requires : goal.word-requires
-word-requires c = sheet_long _ _ _ _ _ _ _ c.fill-f.ensures c.in-Number.is
+pub returns-then-is_err : goal.returns-then-is_err
+returns-then-is_err c = answer_refused _ _ _ _ c.fill-reading.ensures (sym c.if-is_err.ensures.value) c.empty-table-then-is_err.ensures
 
-pub returns-in-Refused : goal.returns-in-Refused
-returns-in-Refused c = answer_refused _ _ _ _ _ _ _ _ c.fill-f.ensures c.in-Refused.is c.refused.ensures
-
-pub returns-in-Number : goal.returns-in-Number
-returns-in-Number c = answer_read _ _ _ _ _ _ _ _ c.fill-f.ensures c.in-Number.is c.word.ensures.0
+pub returns-else-is_err : goal.returns-else-is_err
+returns-else-is_err c = answer_read _ _ _ c.fill-reading.ensures (sym c.if-is_err.ensures.value)

@@ -4,5 +4,5 @@ use Rattle.survey.proofs.survey.Goals as goal
 
 pub put_table-requires : goal.put_table-requires
 put_table-requires g c =
-    let t = answer_table _ _ c.read_sheet-a.ensures in
+    let t = answer_table _ _ c.read_sheet-read.ensures in
     (t.operations.jobs_most, t.operations.objects_most, read_stands _ t)

@@ -1,23 +1,26 @@
 -- `conflict` meets its contract, by cases of the tests.
 -- Assumes nothing.
-use mathlib.Core.Logic.{inl, inr}
-use Rattle.conflicts.proofs.FitsLaws.{fits_apart, fits_read, fits_neither, fits_write, fits_over_none}
+use native.Mathlib.Omega.{arith}
+use Rattle.conflicts.proofs.FitsLaws.{fits_apart, fits_read, fits_write, fits_none}
 use Rattle.conflicts.proofs.pairs.conflict.Goals as goal
 
-pub returns-then-object-x : goal.returns-then-object-x
-returns-then-object-x c = fits_apart _ _ _ _ _ c.if-object-x.true
+pub returns-then-table-x : goal.returns-then-table-x
+returns-then-table-x c = fits_apart _ _ _ _ _ c.if-table-x.true
 
-pub returns-then-k-eq1 : goal.returns-then-k-eq1
-returns-then-k-eq1 c = fits_read _ _ _ _ _ c.if-object-x.false c.if-k-eq1.true
+pub returns-in-1-eq2 : goal.returns-in-1-eq2
+returns-in-1-eq2 c = fits_read _ _ _ _ _ c.if-table-x.false c.in-1-eq2.is-0 c.in-1-eq2.is-1
 
-pub returns-then-k-ne2 : goal.returns-then-k-ne2
-returns-then-k-ne2 c = fits_neither _ _ _ _ _ c.if-k-eq1.false c.if-k-ne2.true
+pub returns-in-2-eq1 : goal.returns-in-2-eq1
+returns-in-2-eq1 c = fits_write _ _ _ _ _ c.if-table-x.false c.in-2-eq1.is-0 (omega arith) (omega arith)
 
-pub returns-then-l-eq1 : goal.returns-then-l-eq1
-returns-then-l-eq1 c = fits_write _ _ _ _ _ c.if-object-x.false c.if-k-ne2.false (inl c.if-l-eq1.true)
+pub returns-in_default : goal.returns-in_default
+returns-in_default c = fits_none _ _ _ _ _ (λ e f. omega arith) (λ e f g. omega arith)
 
-pub returns-then-l-eq2 : goal.returns-then-l-eq2
-returns-then-l-eq2 c = fits_write _ _ _ _ _ c.if-object-x.false c.if-k-ne2.false (inr c.if-l-eq2.true)
+pub returns-in_default-2 : goal.returns-in_default-2
+returns-in_default-2 c = fits_none _ _ _ _ _ (λ e f. omega arith) (λ e f g. omega arith)
 
-pub returns : goal.returns
-returns c = fits_over_none _ _ _ _ _ c.if-k-ne2.false c.if-l-eq1.false c.if-l-eq2.false
+pub returns-in_default-3 : goal.returns-in_default-3
+returns-in_default-3 c = fits_none _ _ _ _ _ (λ e f. omega arith) (λ e f g. omega arith)
+
+pub returns-in_default-4 : goal.returns-in_default-4
+returns-in_default-4 c = fits_none _ _ _ _ _ (λ e f. omega arith) (λ e f g. omega arith)

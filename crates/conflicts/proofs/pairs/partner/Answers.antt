@@ -1,23 +1,16 @@
--- `partner` meets its contract: before each turn none of the operations passed will do.
+-- `partner` meets its contract: what is found is the first that passes.
 -- Assumes nothing.
-use mathlib.Core.Path.{◌≡◌, sym, ◌∙◌}
+use mathlib.Core.Path.{◌≡◌}
+use mathlib.Core.Bool.{true, false}
 use native.Mathlib.Omega.{arith}
-use borrow.Author.Rules.{rules}
-use borrow.Author.Count.{below_none, below_more}
-use Rattle.conflicts.proofs.FitsLaws.{partner_found, partner_none}
+use Rattle.std.proofs.Common.{of_calls}
+use Rattle.std.proofs.lemmas.Iterator.{first_from_Range}
+use Rattle.conflicts.proofs.FitsLaws.{does?, first_partner}
 use Rattle.conflicts.proofs.pairs.partner.Goals as goal
 
-pub loop-a-init : goal.loop-a-init
-loop-a-init c = (search rules, below_none _)
-
-pub returns-then-conflict : goal.returns-then-conflict
-returns-then-conflict c = λ js laid. partner_found _ _ _ _ _ _ (omega arith) js laid _ (omega arith) (sym c.conflict.ensures ∙ c.if-conflict.true) c.loop-a.invariant.1
-
-pub loop-a-preserved : goal.loop-a-preserved
-loop-a-preserved c = (omega arith, below_more _ _ c.loop-a.invariant.1 (sym c.conflict.ensures ∙ c.if-conflict.false))
-
 pub returns : goal.returns
-returns c =
-    let at = c.loop-a in
-    let end : at.a ≡ 16 = omega arith in
-    λ js laid. partner_none _ _ _ _ _ _ (omega arith) js laid (rw end at at.invariant.1)
+returns c js laid =
+    let args = c.args in
+    let p = does? args.table.now.kind args.table.now.object args.i args.b args.j args.any in
+    first_partner _ _ _ _ _ _ (omega arith) js laid _
+    (first_from_Range _ _ _ _ (λ a. p a ≡ true) (λ a. p a ≡ false) c.find.ensures.ran (λ a f m. search of_calls) (λ a f m. search of_calls))

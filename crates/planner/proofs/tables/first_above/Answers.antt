@@ -1,14 +1,10 @@
-use native.Mathlib.Omega.{arith}
+use Rattle.planner.proofs.StepLaws.{found_stand}
 use Rattle.planner.proofs.tables.first_above.Goals as goal
 
-pub next_of-requires : goal.next_of-requires
-next_of-requires c =
+pub next_of-requires-clause-sets_stand : goal.next_of-requires-clause-sets_stand
+next_of-requires-clause-sets_stand c =
     let k = c.requires.stands in
-    record {
-      jobs_bound = (c.requires.jobs_bound.0, omega arith);
-      sets_stand = record { js = k.js; size = k.size; laid = k.laid; sets = (c.find.ensures k).sets };
-    }
+    found_stand _ _ c.find-sets.ensures.same k (c.find-sets.ensures.found k)
 
 pub returns : goal.returns
-returns c =
-    λ k. c.next_of.ensures (record { js = k.js; size = k.size; laid = k.laid; sets = (c.find.ensures k).sets })
+returns c = λ k. c.next_of.ensures (found_stand _ _ c.find-sets.ensures.same k (c.find-sets.ensures.found k))

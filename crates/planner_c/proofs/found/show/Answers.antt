@@ -5,11 +5,7 @@ use Rattle.planner_c.proofs.found.show.Goals as goal
 
 pub returns : goal.returns
 returns c =
-    let args = c.args in
-    found_is args.danger.t1 args.danger.b1 args.danger.t2 args.danger.tm
-    args.chain.now args.pairs.now (replicate 28 0) args.found.now
-    c.put.new.buffer c.put-2.new.buffer c.put-3.new.buffer
-    (search rules) (search rules) (search rules) (search rules)
-    c.put.ensures
-    c.put-2.ensures
-    c.put-3.ensures
+    let a = c.args in
+    found_is a.danger.t1 a.danger.b1 a.danger.t2 a.danger.tm c.from.result a.chain.now a.pairs.now (replicate 28 0) a.found.now _ _ _ _
+    c.from.ensures (search rules) (search rules) (search rules) (search rules)
+    c.put.ensures c.put-2.ensures c.put-3.ensures c.put-4.ensures

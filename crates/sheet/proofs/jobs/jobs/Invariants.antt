@@ -2,14 +2,13 @@ use Prim.Native.Nat.{◌-◌, ◌≤◌}
 use mathlib.Core.Path.{◌≡◌}
 use lib.ListN.{length}
 use Rattle.sheet.specs.Sheet.{jobs_at}
+use Rattle.sheet.specs.Answer.{rows_in, SameHead}
 use Rattle.sheet.proofs.jobs.jobs.Given as goal
 
 abbrev pub invariant-loop-j : goal.invariant-loop-j
 invariant-loop-j l =
-    (l.j ≤ l.declared)
+    (l.j ≤ l.j-end)
     × (l.at ≤ length l.s)
-    × (jobs_at l.s l.objects (l.declared - l.j) l.j (record { at = l.at; level = l.level; count = l.count; kind = l.kind; object = l.object })
-    ≡ jobs_at l.s l.objects l.declared 0 (record { at = 7; level = l.initial.level; count = l.initial.count; kind = l.initial.kind; object = l.initial.object }))
-
-abbrev pub decreases-loop-j : goal.decreases-loop-j
-decreases-loop-j l = l.declared - l.j
+    × (jobs_at l.s l.initial.table.objects (l.j-end - l.j) l.j (rows_in l.table l.at)
+    ≡ jobs_at l.s l.initial.table.objects l.j-end 0 (rows_in l.initial.table 7))
+    × SameHead l.initial.table l.table

@@ -1,36 +1,39 @@
-use mathlib.Core.Path.{sym}
-use mathlib.Core.Bool.{true, false}
+use mathlib.Core.Path.{refl, sym, ◌∙◌}
 use Rattle.sheet.specs.Marks.{marked_more}
-use Rattle.sheet.proofs.FoundLaws.{cells_refused, no_number, byte_outside}
+use Rattle.sheet.proofs.FoundLaws.{outside_is, refused_is, no_value}
 use Rattle.sheet.proofs.OperationLaws.{operation_kind, operation_object, operation_twice, operation_stored}
 use Rattle.sheet.proofs.operations.operation.Goals as goal
 
-pub returns-then-outside : goal.returns-then-outside
-returns-then-outside c =
+pub returns-then-not-contains : goal.returns-then-not-contains
+returns-then-not-contains c =
+    let o = outside_is _ c.new.ensures.start c.new.ensures.end c.new.ensures.exhausted c.contains.ensures.value c.if-not-contains.true in
     let r = c.refuse.ensures in
-    (cells_refused _ _ r _ _ _ (operation_kind _ _ _ _ _ (byte_outside 1 2 _ _ _ true c.wide.ensures.0 c.outside.ensures c.if-outside.true)), no_number _ _ r)
+    (refused_is _ _ _ _ r (operation_kind _ _ _ _ _ o), (refl, refl, refl, refl), no_value _ _ r)
 
-pub returns-then-objects-x : goal.returns-then-objects-x
-returns-then-objects-x c =
-    let r = c.refuse-then-objects-x.ensures in (
-      cells_refused _ _ r _ _ _
-          (operation_object _ _ _ _ _ (byte_outside 1 2 _ _ _ false c.wide.ensures.0 c.outside.ensures c.if-outside.false) _ c.word-x.ensures.0 c.if-objects-x.true),
-      no_number _ _ r,
+pub returns-then-table-from : goal.returns-then-table-from
+returns-then-table-from c =
+    let o = outside_is _ c.new.ensures.start c.new.ensures.end c.new.ensures.exhausted c.contains.ensures.value c.if-not-contains.false in
+    let r = c.refuse-then-table-from.ensures in (
+      refused_is _ _ _ _ r
+          (operation_object _ _ _ _ _ o _ (c.from.ensures ∙ c.word-x.ensures) c.if-table-from.true),
+      (refl, refl, refl, refl),
+      no_value _ _ r,
     )
 
 pub returns-then-is_twice : goal.returns-then-is_twice
 returns-then-is_twice c =
+    let o = outside_is _ c.new.ensures.start c.new.ensures.end c.new.ensures.exhausted c.contains.ensures.value c.if-not-contains.false in
     let r = c.refuse-then-is_twice.ensures in (
-      cells_refused _ _ r _ _ _
-          (operation_twice _ _ _ _ _ (byte_outside 1 2 _ _ _ false c.wide.ensures.0 c.outside.ensures c.if-outside.false) _ c.word-x.ensures.0 c.if-objects-x.false
-          _ c.is_twice.ensures c.if-is_twice.true),
-      no_number _ _ r,
+      refused_is _ _ _ _ r
+          (operation_twice _ _ _ _ _ o _ c.word-x.ensures (rw c.from.ensures at c.if-table-from.false) _ c.is_twice.ensures c.if-is_twice.true),
+      (refl, refl, refl, refl),
+      no_value _ _ r,
     )
 
 pub returns : goal.returns
-returns c = (
-  sym
-      (operation_stored _ _ _ _ _ (byte_outside 1 2 _ _ _ false c.wide.ensures.0 c.outside.ensures c.if-outside.false) _ c.word-x.ensures.0 c.if-objects-x.false
-      _ c.is_twice.ensures c.if-is_twice.false),
-  λ next i. marked_more _ _ _ _ _ _ _ _ c.slot.ensures.0 c.requires.2,
-)
+returns c =
+    let o = outside_is _ c.new.ensures.start c.new.ensures.end c.new.ensures.exhausted c.contains.ensures.value c.if-not-contains.false in (
+      sym (operation_stored _ _ _ _ _ o _ c.word-x.ensures (rw c.from.ensures at c.if-table-from.false) _ c.is_twice.ensures c.if-is_twice.false),
+      (refl, refl, refl, refl),
+      λ next i. marked_more _ _ _ _ _ _ _ _ c.slot.ensures.0 c.requires.2,
+    )

@@ -2,33 +2,37 @@ use Prim.Native.Nat.{◌-◌}
 use native.Mathlib.Omega.{arith}
 use mathlib.Core.Path.{◌≡◌, refl, sym, ◌∙◌}
 use Rattle.sheet.specs.Sheet.{operations_at}
-use Rattle.sheet.specs.Marks.{marked_none}
+use Rattle.sheet.proofs.FoundLaws.{passed_is, same_rows}
 use Rattle.sheet.proofs.OperationLaws.{operations_on, operations_place, operations_refused}
 use Rattle.sheet.proofs.operations.operations.Goals as goal
 
-pub loop-n-init : goal.loop-n-init
-loop-n-init c =
+pub returns-in_err-at : goal.returns-in_err-at
+returns-in_err-at c =
     let a = c.args in
-    let e : a.count - 0 ≡ a.count = omega arith in
-    (omega arith, omega arith, marked_none _ _ _ _ refl, rw e)
-
-pub returns-in_default : goal.returns-in_default
-returns-in_default c =
-    let a = c.args in
-    operations_refused _ a.objects a.base a.count c.loop-n.n _ _ _ (omega arith) _ _ _ c.operation-f.ensures.0 _ c.in_default.is
-    ∙ c.loop-n.invariant.3
+    let i = c.loop-n.invariant in
+    let o = c.in_err-at.ensures in (
+      passed_is _ _ _ _ c.from_residual.ensures
+          (operations_refused _ a.table.now.objects a.base a.count c.loop-n.n _ (omega arith) _ (rw i.4.1 at o.0) ∙ i.3),
+      same_rows a.table.now c.loop-n.table c.operation.new.table i.4 o.1,
+    )
 
 pub loop-n-preserved : goal.loop-n-preserved
 loop-n-preserved c =
     let a = c.args in
-    let o = c.operation-f.ensures in
-    let i = c.in-Number.is in
-    let e = operations_on _ a.objects a.base a.count c.loop-n.n _ _ _ (omega arith) _ _ _ o.0 _ i in
-    let p = operations_place _ a.objects a.base a.count c.loop-n.n _ _ _ (omega arith) _ _ _ o.0 _ i in
-    (omega arith, omega (arith, p), o.1 _ i, sym e ∙ c.loop-n.invariant.3)
+    let i = c.loop-n.invariant in
+    let o = c.in_ok-at.ensures in
+    let e = rw i.4.1 at o.0 in
+    let p = operations_place _ a.table.now.objects a.base a.count c.loop-n.n _ (omega arith) _ e in (
+      omega arith,
+      omega (arith, p, i.1),
+      o.2 _ refl,
+      sym (operations_on _ a.table.now.objects a.base a.count c.loop-n.n _ (omega arith) _ e) ∙ i.3,
+      same_rows a.table.now c.loop-n.table c.operation.new.table i.4 o.1,
+    )
 
 pub returns : goal.returns
 unfolding operations_at
 returns c =
     let z : c.args.count - c.loop-n.n ≡ 0 = omega arith in
-    rw z at c.loop-n.invariant.3
+    let i = c.loop-n.invariant in
+    (rw z at i.3, i.4)

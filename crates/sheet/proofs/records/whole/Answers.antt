@@ -1,28 +1,29 @@
-use borrow.Author.Tests.{le-ltb, lt-ltb, eq-eqb, ne_eqb}
-use mathlib.Core.Path.{sym}
-use Rattle.sheet.specs.Step.{refuse}
-use Rattle.sheet.specs.Sheet.{record_at}
+use mathlib.Core.Path.{sym, ◌∙◌}
+use Rattle.sheet.proofs.FoundLaws.{outside_is, refused_is}
+use Rattle.sheet.proofs.RecordLaws.{record_short, record_tag, record_length, record_behind, record_found}
 use Rattle.sheet.proofs.records.whole.Goals as goal
 
-pub returns-then-s-at-lt3 : goal.returns-then-s-at-lt3
-unfolding record_at refuse
-returns-then-s-at-lt3 c = simp (c.refuse.ensures, lt-ltb _ _ c.if-s-at-lt3.true)
+pub returns-in_default : goal.returns-in_default
+returns-in_default c = refused_is _ _ _ _ c.refuse.ensures (record_short _ _ _ _ _ c.in_default.len_below)
 
-pub returns-then-s-at : goal.returns-then-s-at
-unfolding record_at refuse
-returns-then-s-at c = simp (c.refuse-then-s-at.ensures, le-ltb _ _ c.if-s-at-lt3.false, ne_eqb _ _ c.if-s-at.true)
+pub returns-then-first-tag : goal.returns-then-first-tag
+returns-then-first-tag c =
+    refused_is _ _ _ _ c.refuse-then-first-tag.ensures (record_tag _ _ _ _ _ c.in-len3-up.len_at_least c.if-first-tag.true)
 
-pub returns-then-outside : goal.returns-then-outside
-unfolding record_at refuse
-returns-then-outside c =
-    simp (c.refuse-then-outside.ensures, le-ltb _ _ c.if-s-at-lt3.false, eq-eqb _ _ c.if-s-at.false, sym c.word-len.ensures.0, sym c.outside.ensures, c.if-outside.true)
+pub returns-then-not-contains : goal.returns-then-not-contains
+returns-then-not-contains c =
+    let o = outside_is _ c.new.ensures.start c.new.ensures.end c.new.ensures.exhausted c.contains.ensures.value c.if-not-contains.true in
+    refused_is _ _ _ _ c.refuse-then-not-contains.ensures
+    (record_length _ _ _ _ _ c.in-len3-up.len_at_least c.if-first-tag.false _ (c.from-len.ensures ∙ c.from_be_bytes.ensures) o)
 
-pub returns-then-s-at-2 : goal.returns-then-s-at-2
-unfolding record_at refuse
-returns-then-s-at-2 c =
-    simp (c.refuse-then-s-at-2.ensures, le-ltb _ _ c.if-s-at-lt3.false, eq-eqb _ _ c.if-s-at.false, sym c.word-len.ensures.0, sym c.outside.ensures, c.if-outside.false, lt-ltb _ _ c.if-s-at-2.true)
+pub returns-then-rest-len : goal.returns-then-rest-len
+returns-then-rest-len c =
+    let o = outside_is _ c.new.ensures.start c.new.ensures.end c.new.ensures.exhausted c.contains.ensures.value c.if-not-contains.false in
+    refused_is _ _ _ _ c.refuse-then-rest-len.ensures
+    (record_behind _ _ _ _ _ c.in-len3-up.len_at_least c.if-first-tag.false _ (c.from-len.ensures ∙ c.from_be_bytes.ensures) o c.if-rest-len.true)
 
 pub returns : goal.returns
-unfolding record_at refuse
 returns c =
-    simp (le-ltb _ _ c.if-s-at-lt3.false, eq-eqb _ _ c.if-s-at.false, sym c.word-len.ensures.0, sym c.outside.ensures, c.if-outside.false, le-ltb _ _ c.if-s-at-2.false)
+    let o = outside_is _ c.new.ensures.start c.new.ensures.end c.new.ensures.exhausted c.contains.ensures.value c.if-not-contains.false in
+    sym
+    (record_found _ _ _ _ _ c.in-len3-up.len_at_least c.if-first-tag.false _ (c.from-len.ensures ∙ c.from_be_bytes.ensures) o c.if-rest-len.false)

@@ -1,9 +1,10 @@
 use native.Mathlib.Omega.{arith}
+use mathlib.Core.Path.{refl}
 use Rattle.splits.proofs.ReturnSteps.{going_starts, going_low, going_high, going_ends}
 use Rattle.splits.proofs.split.find_returns.Goals as goal
 
 pub loop-b-init : goal.loop-b-init
-loop-b-init c = going_starts _ _ _ _ _ _ c.requires.1
+loop-b-init c = going_starts _ _ _ _ _ _ refl
 
 pub loop-b-preserved-then-level-lt1 : goal.loop-b-preserved-then-level-lt1
 loop-b-preserved-then-level-lt1 c =
@@ -11,11 +12,11 @@ loop-b-preserved-then-level-lt1 c =
     _ _ _ _ _ _ _ _ _
     (omega arith)
     c.loop-b.invariant
-    c.requires.0
+    c.requires
     c.if-level-lt1.true
     _ _ _ _
-    c.over-rw.ensures
-    c.over-ww.ensures
+    c.over.ensures
+    c.over-then-level-lt1.ensures
     c.union.ensures
     c.union-all.ensures
 
@@ -24,21 +25,3 @@ loop-b-preserved c = going_high _ _ _ _ _ _ _ _ _ (omega arith) c.loop-b.invaria
 
 pub returns : goal.returns
 returns c = going_ends _ _ _ _ _ _ _ _ (omega arith) c.loop-b.invariant
-
-pub bounds-last-b : goal.bounds-last-b
-bounds-last-b c = omega arith
-
-pub overflow_add-i : goal.overflow_add-i
-overflow_add-i c = omega arith
-
-pub over-rw-requires : goal.over-rw-requires
-over-rw-requires c = omega arith
-
-pub over-ww-requires : goal.over-ww-requires
-over-ww-requires c = omega arith
-
-pub loop-b-smaller-then-level-lt1 : goal.loop-b-smaller-then-level-lt1
-loop-b-smaller-then-level-lt1 c = omega arith
-
-pub loop-b-smaller : goal.loop-b-smaller
-loop-b-smaller c = omega arith

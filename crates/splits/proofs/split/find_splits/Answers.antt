@@ -1,17 +1,17 @@
+use mathlib.Core.Path.{refl}
 use native.Mathlib.Omega.{arith}
 use native.Mathlib.Numerals.{add-one}
 use Rattle.splits.proofs.SplitSteps.{going_starts, going_next, going_ends}
 use Rattle.splits.proofs.split.find_splits.Goals as goal
 
 pub loop-b-init : goal.loop-b-init
-loop-b-init c =
-    going_starts _ _ _ _ _ _ _ _ c.requires.0 _ _ _ c.requires.1 c.find_returns.ensures c.closed_from_start-closed.ensures
+loop-b-init c = going_starts _ _ _ _ _ _ _ _ c.requires _ _ _ refl c.find_returns-last.ensures c.closed_from_start-closed.ensures
 
 pub loop-b-preserved : goal.loop-b-preserved
 loop-b-preserved c =
     going_next
     _ _ _ _ _ _ _ _
-    c.requires.0
+    c.requires
     _ _ _ _ _ _ _ _
     (add-one c.loop-b.b)
     (omega arith)
@@ -32,12 +32,3 @@ loop-b-preserved c =
 
 pub returns : goal.returns
 returns c = going_ends _ _ _ _ _ _ _ _ _ _ _ _ (omega arith) c.loop-b.invariant
-
-pub overflow_add-i : goal.overflow_add-i
-overflow_add-i c = omega arith
-
-pub over-requires : goal.over-requires
-over-requires c = omega arith
-
-pub over-requires-in-loop-b : goal.over-requires-in-loop-b
-over-requires-in-loop-b c = omega arith

@@ -1,24 +1,16 @@
-use native.Mathlib.Omega.{arith}
-use borrow.Author.Count.{below_more}
-use Rattle.theory.specs.Form1.{form1}
-use Rattle.splits.proofs.WatchLaws.{watch_none}
-use Rattle.verdict.proofs.SplitLaws.{tells_yes, tells_no, rc_means}
+use Rattle.std.proofs.Common.{rules, tests}
+use Rattle.std.proofs.lemmas.Iterator.{cases_from_any, YieldsList-from_slice, YieldsList-from_zip}
+use Rattle.splits.specs.Splits.{Meets}
+use Rattle.verdict.proofs.SplitLaws.{tells_any}
 use Rattle.verdict.proofs.judge.is_split_at_rc.Goals as goal
 
-pub loop-b-init : goal.loop-b-init
-loop-b-init c = (omega arith, λ k h. absurd (omega arith))
-
-pub returns-then-meets : goal.returns-then-meets
-returns-then-meets c =
-    let shut = c.shut_by-shut in
-    let found = c.find_splits.ensures.splits in
-    λ js s lv e. tells_yes ((rc_means form1 js s _ _ (shut.ensures js _ _ _ _ _ s) lv e _ _ (found js lv _ s e (watch_none lv _ (omega arith)))).1 (c.loop-b.b, c.loop-b-test.true, c.meets.ensures.met c.if-meets.true))
-
-pub loop-b-preserved : goal.loop-b-preserved
-loop-b-preserved c = (omega arith, below_more _ _ c.loop-b.invariant.1 (c.meets.ensures.apart c.if-meets.false))
-
 pub returns : goal.returns
-returns c =
-    let shut = c.shut_by-shut in
-    let found = c.find_splits.ensures.splits in
-    λ js s lv e. tells_no (λ d. let m = (rc_means form1 js s _ _ (shut.ensures js _ _ _ _ _ s) lv e _ _ (found js lv _ s e (watch_none lv _ (omega arith)))).0 d in c.loop-b.invariant.1 m.0 (omega (arith, m.1)) m.2)
+returns c = λ js s lv e.
+    let ends = c.find_splits-ends.result in
+    let shut = c.shut_by.result in
+    let clash = c.args.sets.now.clash in
+    tells_any js s _ shut (c.shut_by.ensures js _ _ _ _ _ s) ends.first ends.last c.find_splits-ends.ensures lv e _
+    (cases_from_any c.any.new.self _ _ (λ p. Meets clash shut p.0 p.1) (λ p. ¬ Meets clash shut p.0 p.1) c.any.ensures.ran
+    (YieldsList-from_zip (YieldsList-from_slice ends.first cc) (YieldsList-from_slice ends.last cc))
+    (λ p f called. search (rules, tests))
+    (λ p f called. search (rules, tests)))

@@ -1,12 +1,8 @@
-use mathlib.Core.Logic.{inl, inr}
 use Rattle.verdict.proofs.HitLaws.{no_hit, hit_means}
 use Rattle.verdict.proofs.lowest.hit_by.Goals as goal
 
 pub returns-then-first-eq0 : goal.returns-then-first-eq0
-returns-then-first-eq0 c = no_hit _ _ _ _ (inl c.if-first-eq0.true)
-
-pub returns-then-last-eq0 : goal.returns-then-last-eq0
-returns-then-last-eq0 c = no_hit _ _ _ _ (inr c.if-last-eq0.true)
+returns-then-first-eq0 c = no_hit _ _ _ _ c.then-first-eq0.either
 
 pub returns : goal.returns
 returns c =

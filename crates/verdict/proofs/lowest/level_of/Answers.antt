@@ -14,8 +14,8 @@ returns-then-is_split_at_rc c = λ js s need.
     at_si form1 js _ (need.no _ (is_out _ _ _ c.has.ensures c.if-has.false))
     ((c.is_split_at_rc.ensures js s (only j 0) (only_at j 0)).yes c.if-is_split_at_rc.true)
 
-pub returns : goal.returns
-returns c = λ js s need.
+pub returns-else-is_split_at_rc : goal.returns-else-is_split_at_rc
+returns-else-is_split_at_rc c = λ js s need.
     let j = c.args.j in
     at_rc form1 js _ (need.no _ (is_out _ _ _ c.has.ensures c.if-has.false))
     ((c.is_split_at_rc.ensures js s (only j 0) (only_at j 0)).no c.if-is_split_at_rc.false)

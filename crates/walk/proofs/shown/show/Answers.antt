@@ -1,16 +1,19 @@
 -- The chain is shown first, and then its pairs.
-use Rattle.walk.proofs.ShownLaws.{split_small, askable, pairs_askable, shown_in}
+use native.Mathlib.Omega.{arith}
+use Rattle.walk.proofs.ShownLaws.{askable, chain_there, fits, pairs_askable, shown_in}
 use Rattle.walk.proofs.shown.show.Goals as goal
 
-pub shut_by-shut-requires : goal.shut_by-shut-requires
-shut_by-shut-requires c = split_small c.requires.danger_in
+pub show-requires : goal.show-requires
+show-requires c = askable c.requires.danger_in
 
-pub show-n-requires : goal.show-n-requires
-show-n-requires c = askable c.requires.danger_in
+pub unwrap-n-requires : goal.unwrap-n-requires
+unwrap-n-requires c = chain_there c.requires.danger_in _ c.shut_by.ensures _ _ _ c.show.ensures
+
+pub shared_ref_as_front-write_pairs : goal.shared_ref_as_front-write_pairs
+shared_ref_as_front-write_pairs c = omega (arith, fits c.requires.danger_in _ c.shut_by.ensures _ _ _ (rw c.unwrap-n.ensures at c.show.ensures))
 
 pub write_pairs-requires-clause-to_pair : goal.write_pairs-requires-clause-to_pair
-write_pairs-requires-clause-to_pair c = pairs_askable c.requires.danger_in _ c.shut_by-shut.ensures _ _ _ c.show-n.ensures
+write_pairs-requires-clause-to_pair c = pairs_askable c.requires.danger_in _ c.shut_by.ensures _ _ _ (rw c.unwrap-n.ensures at c.show.ensures)
 
 pub returns : goal.returns
-returns c d =
-    shown_in d _ c.shut_by-shut.ensures _ _ _ c.show-n.ensures _ _ c.write_pairs.ensures
+returns c d = shown_in d _ c.shut_by.ensures _ _ _ (rw c.unwrap-n.ensures at c.show.ensures) _ _ c.write_pairs.ensures

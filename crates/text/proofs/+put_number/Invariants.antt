@@ -1,5 +1,0 @@
-use Rattle.text.proofs.+put_number.Given as goal
-
--- the number itself, which falls to its tenth
-abbrev pub decreases-put_number : goal.decreases-put_number
-decreases-put_number l = l.n
