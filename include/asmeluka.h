@@ -10,7 +10,7 @@
  * job goes unnoticed (README.md, "What this does not promise").
  *
  * What the library needs: memcpy and memset; a processor of the level x86-64-v2 (SSE4.2) and its SSE registers, which an
- * interrupt handler that calls it must save; at most 8,512 bytes of stack (measured, docs/FIGURES.md). It has no data,
+ * interrupt handler that calls it must save; at most 8,448 bytes of stack (measured, docs/FIGURES.md). It has no data,
  * takes no memory and keeps nothing between calls.
  *
  * What the caller keeps, since no proof sees it:

@@ -19,6 +19,7 @@ fn put_handed(word: &str, handed: Result<u32, Refusal>, buffer: &[u8], out: &mut
     }
 }
 
+// Two functions, since each names its own question: with the question as a parameter they would be no shorter.
 pub fn put_lowest(sheet: &[u8], buffer: &mut [u8], out: &mut Text<'_>) {
     let handed = planner::lowest(sheet, buffer);
     put_handed("lowest", handed, buffer, out);

@@ -15,6 +15,7 @@ fn put_job(table: &Table, job: usize, out: &mut Text<'_>)
     let last = first + usize::from(table.count[job]);
     let objects = &table.object[first..last];
     for (kind, object) in table.kind[first..last].iter().zip(objects) {
+        // A kind is a byte in the table.
         let letter = if *kind == 1 { 'R' } else { 'W' };
         let _ = write!(out, " {letter}{object}");
     }

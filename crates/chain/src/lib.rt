@@ -19,6 +19,7 @@ impl Paths<'_> {
     {
         let mut seen = from;
         let mut todo = from;
+        // A `while`, since jobs come to `todo` as it goes: the lowest in turn (document 01, "The shape of each place").
         while 0 < todo {
             let job = jobset::lowest(todo);
             let near = self.clash[job as usize];
@@ -63,6 +64,7 @@ impl Paths<'_> {
             layer = jobset::without(jobset::without(around(self.clash, layer), self.shut), seen);
             seen = jobset::union(seen, layer);
         }
+        // After 32 layers no job is left.
         None
     }
 
@@ -96,6 +98,7 @@ fn around(clash: &[u32; 32], jobs: u32) -> u32
 {
     let mut near: u32 = 0;
     let mut left = jobs;
+    // Likewise the lowest job in turn, by trailing zeros.
     while 0 < left {
         let job = jobset::lowest(left);
         near = jobset::union(near, clash[job as usize]);

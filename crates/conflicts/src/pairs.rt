@@ -22,7 +22,8 @@ fn conflict(table: &Table, x: usize, y: usize, any: bool) -> bool
     }
 }
 
-// The lowest operation of job j with which operation b of job i is rw or, from operation `any` of job j on, in some conflict.
+// The lowest operation of job j with which operation b of job i is rw or, from operation `any` of job j on, in some conflict. `any` is where a
+// range begins, so 16 leaves it empty; `Fits` has it so.
 pub fn partner(table: &Table, i: usize, b: usize, j: usize, any: usize) -> Option<usize>
     requires { (i < 32) × (b < 16) × (j < 32) }
     ensures { (js : Jobs form1) → Laid table.now.kind table.now.object js → Partner (Fits form1 js any i j b) result }

@@ -1,8 +1,7 @@
 // For each job the jobs with which it is ww, rw and wr, and those with which it conflicts.
 ghost use Rattle.std.specs.Prelude.{◌≡◌, ℕ, ◌≤◌, ◌<◌, replicate};
 ghost use Rattle.conflicts.specs.Sets.{over};
-ghost use Rattle.conflicts.specs.SetsFound.{SetsFound};
-ghost use Rattle.conflicts.specs.Laid.{Stands};
+ghost use Rattle.conflicts.specs.SetsOf.{StandsIn, FoundOf};
 ghost use Rattle.conflicts.specs.Found.{Filled, Over, Turned, Any};
 
 use crate::writers::find_writers;
@@ -10,6 +9,7 @@ use jobset::{has, single, union, with, without};
 use sheet::Table;
 
 // Job j has entry j of the last four arrays, its operation o entry 16 * j + o of `writers`, with the jobs that write the operation's object.
+// What must hold of them stands in the clauses: an invariant would ask it of every caller of every function.
 #[derive(Drop)]
 pub struct Sets<'a> {
     pub table: &'a Table,
@@ -21,7 +21,8 @@ pub struct Sets<'a> {
 }
 
 impl Sets<'_> {
-    // The jobs that write over the operation at i, if it is of kind k: those with which a read (1) is rw, a write (2) ww.
+    // The jobs that write over the operation at i, if it is of kind k: those with which a read (1) is rw, a write (2) ww. Any byte may be asked
+    // for, so k is no enum.
     pub fn over(&self, i: usize, k: u8) -> u32
         requires { i < 512 }
         ensures { result ≡ over self.now.table.now.kind self.now.writers i k }
@@ -68,7 +69,7 @@ impl Sets<'_> {
     }
 }
 
-// The set of each of the first `jobs` jobs, and no job for the others. A loop, since of what `array::from_fn` makes this was not proved.
+// The set of each of the first `jobs` jobs, and no job for the others. A loop, since the proof over `array::from_fn` did not close.
 fn fill<F: Fn(usize) -> u32>(jobs: usize, set: F) -> [u32; 32]
     requires jobs_bound { jobs ≤ 32 }
     requires calls { (j : ℕ) → j < jobs → F.pre set j }
@@ -81,14 +82,13 @@ fn fill<F: Fn(usize) -> u32>(jobs: usize, set: F) -> [u32; 32]
     sets
 }
 
-// All sets of the jobs that stand in the table, in place of none.
+// All sets of the jobs that stand in the table, in sets that were empty. Out of line, so that its frame is gone before a search begins.
 #[inline(never)]
 fn work_out(sets: &mut Sets)
     requires jobs_bound { (sets.old.table.now.jobs ≤ 32) × (sets.old.table.now.objects ≤ 4096) × (sets.old.writers ≡ replicate 512 0) }
-    requires stands { Stands sets.old.table.now.jobs sets.old.table.now.objects sets.old.table.now.kind sets.old.table.now.object }
+    requires stands { StandsIn sets.old.table.now }
     ensures same { sets.new.table ≡ sets.old.table }
-    ensures found { (k : Stands sets.old.table.now.jobs sets.old.table.now.objects sets.old.table.now.kind sets.old.table.now.object)
-        → SetsFound k.js sets.new.table.now.kind sets.new.table.now.object sets.new.writers sets.new.ww sets.new.rw sets.new.wr sets.new.clash }
+    ensures found { (k : StandsIn sets.old.table.now) → FoundOf k.js sets.new }
 {
     let table = sets.table;
     find_writers(table, &mut sets.writers);
@@ -101,12 +101,9 @@ fn work_out(sets: &mut Sets)
 // All sets of the jobs that stand in the table. Inlined, so that they stand once on the stack, where the caller keeps them.
 #[inline(always)]
 pub fn find<'a>(table: &'a Table) -> Sets<'a>
-    requires { (table.now.jobs ≤ 32)
-        × (table.now.objects ≤ 4096)
-        × Stands table.now.jobs table.now.objects table.now.kind table.now.object }
+    requires { (table.now.jobs ≤ 32) × (table.now.objects ≤ 4096) × StandsIn table.now }
     ensures same { result.table ≡ table.entry }
-    ensures found { (k : Stands table.now.jobs table.now.objects table.now.kind table.now.object)
-        → SetsFound k.js result.table.now.kind result.table.now.object result.writers result.ww result.rw result.wr result.clash }
+    ensures found { (k : StandsIn table.now) → FoundOf k.js result }
 {
     let mut sets = Sets {
         table,

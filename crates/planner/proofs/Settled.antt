@@ -52,10 +52,13 @@ robust_tells verdict.Robust verdict.Dangerous e = absurd (cc)
 robust_tells verdict.Dangerous verdict.Robust e = absurd (cc)
 robust_tells verdict.Dangerous verdict.Dangerous e = refl
 
+verdict_tells : (v w : Result Verdict Refusal) → verdict_of v ≡ verdict_of w → v ≡ w
+verdict_tells = step_tells robust_of robust_tells
+
 pub judge_settled : (s ls : List ℕ) (v w : Result Verdict Refusal) → Judged s ls v → Judged s ls w → v ≡ w
 judge_settled s ls v w p q =
     let R : Table → Bool → Type 0 = λ t. Tells (Robust₁ (jobs_of t) ls) in
-    step_tells robust_of robust_tells v w (answers_once R R (λ t. one_verdict) (with_levels s ls) (verdict_of v) (verdict_of w) p q)
+    verdict_tells v w (answers_once R R (λ t. one_verdict) (with_levels s ls) (verdict_of v) (verdict_of w) p q)
 
 -- `next_danger`
 named_tells : (f g : Four) → named f ≡ named g → f ≡ g
@@ -66,6 +69,9 @@ answer_tells (Some f) (Some g) e = let d : named f ≡ named g = cc in ap Some (
 answer_tells (Some f) None e = absurd (cc)
 answer_tells None (Some g) e = absurd (cc)
 answer_tells None None e = refl
+
+walk_tells : (v w : Result (Option Four) Refusal) → walk_of v ≡ walk_of w → v ≡ w
+walk_tells = step_tells answered answer_tells
 
 ap₃ : {A B C D : Type 0} (f : A → B → C → D) {a x : A} {b y : B} {c z : C} → a ≡ x → b ≡ y → c ≡ z → f a b c ≡ f x y z
 ap₃ f p q r = λ i. f (p i) (q i) (r i)
@@ -145,7 +151,7 @@ module _ (ls : List ℕ) (above : Four) (a b : WalkAnswer) where
 pub walk_settled : (s ls : List ℕ) (above : Four) (a b : WalkAnswer) → Walked s ls above a → Walked s ls above b → a ≡ b
 walk_settled s ls above a b p q =
     let e = answers_once (Told ls above a b a) (Told ls above a b b) (λ t v w h k. one_answer₁ (jobs_of t) ls (named above) v w h.0 k.0) (with_levels s ls) (walk_of a.walk) (walk_of b.walk) p.outcome q.outcome in
-    let w = step_tells answered answer_tells a.walk b.walk e in
+    let w = walk_tells a.walk b.walk e in
     let h = alike ls above a b (with_levels s ls) e p.outcome q.outcome p.refused q.refused in
     λ i. record { walk = w i; length = h.length_is i; chain = h.chain_is i; pairs = h.pairs_are i }
 

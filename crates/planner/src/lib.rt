@@ -15,16 +15,16 @@ use levels::{check_levels, check_room};
 use sheet::{ReadAnswer, Refusal};
 use walk::four::Four;
 
-// Whether a sheet is robust against a list of levels.
+// Whether a sheet is robust against a list of levels; named, since `true` would not say which of the two it is.
 #[derive(Clone, Copy)]
 pub enum Verdict {
     Robust,
     Dangerous,
 }
 
-// A step of the walk: a danger found, the end, or the refusal. The chain shown with a danger stands beside it, since an enum holds no
-// array: the number of its jobs, the jobs T2 .. Tm, and the pairs, the earlier job's operation first; zeros behind them, and nothing but
-// zeros where no danger is found.
+// A step of the walk: a danger found, the end, or the refusal. The chain shown with a danger stands beside it, in arrays (document 01, "The
+// shape of each place"): the number of its jobs, the jobs T2 .. Tm, and the pairs, the earlier job's operation first; zeros behind them, and
+// nothing but zeros where no danger is found.
 #[derive(Clone, Copy)]
 pub struct WalkAnswer {
     pub walk: Result<Option<Four>, Refusal>,
@@ -79,10 +79,10 @@ pub fn next_danger(sheet: &[u8], levels: &[u8], above: Four) -> WalkAnswer
     ensures { Walked sheet.now levels.now above result }
 {
     let read = sheet::read_sheet(sheet);
-    if let Err(r) = check_with_levels(&read, levels) {
-        return nothing_shown(Err(r));
+    match check_with_levels(&read, levels) {
+        Ok(()) => tables::first_above(&read.table, levels, above),
+        Err(r) => nothing_shown(Err(r)),
     }
-    tables::first_above(&read.table, levels, above)
 }
 
 // Which are the lowest levels, and how many verdicts does the rule ask for?

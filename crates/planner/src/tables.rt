@@ -3,7 +3,7 @@ ghost use Rattle.std.specs.Prelude.{◌≡◌, ◌++◌, ◌≤◌, length, take
 ghost use Rattle.theory.specs.Form1.{form1};
 ghost use Rattle.theory.specs.Planner.{Robust₁};
 ghost use Rattle.sheet.specs.Step.{ok};
-ghost use Rattle.conflicts.specs.Laid.{Stands};
+ghost use Rattle.conflicts.specs.SetsOf.{StandsIn};
 ghost use Rattle.verdict.specs.Verdict.{Tells, Lowers};
 ghost use Rattle.planner.specs.Questions.{Answers, Walks, walk_of};
 
@@ -17,8 +17,8 @@ use walk::four::Four;
 #[inline(never)]
 pub fn is_robust(table: &Table, levels: &[u8]) -> bool
     requires jobs_bound { (table.now.jobs ≤ 32) × (table.now.objects ≤ 4096) × (length levels.now ≡ table.now.jobs) }
-    requires stands { Stands table.now.jobs table.now.objects table.now.kind table.now.object }
-    ensures { (k : Stands table.now.jobs table.now.objects table.now.kind table.now.object) → Tells (Robust₁ k.js levels.now) result }
+    requires stands { StandsIn table.now }
+    ensures { (k : StandsIn table.now) → Tells (Robust₁ k.js levels.now) result }
 {
     let sets = conflicts::sets::find(table);
     verdict::judge::is_robust(&sets, levels)
@@ -28,9 +28,8 @@ pub fn is_robust(table: &Table, levels: &[u8]) -> bool
 #[inline(never)]
 pub fn first_above(table: &Table, levels: &[u8], above: Four) -> WalkAnswer
     requires jobs_bound { (table.now.jobs ≤ 32) × (table.now.objects ≤ 4096) × (length levels.now ≡ table.now.jobs) }
-    requires stands { Stands table.now.jobs table.now.objects table.now.kind table.now.object }
-    ensures { (k : Stands table.now.jobs table.now.objects table.now.kind table.now.object)
-        → Answers (λ js. Walks levels.now above result js) (ok k.js) (walk_of result.walk) }
+    requires stands { StandsIn table.now }
+    ensures { (k : StandsIn table.now) → Answers (λ js. Walks levels.now above result js) (ok k.js) (walk_of result.walk) }
 {
     let sets = conflicts::sets::find(table);
     next_of(&sets, levels, above)
@@ -40,9 +39,8 @@ pub fn first_above(table: &Table, levels: &[u8], above: Four) -> WalkAnswer
 #[inline(never)]
 pub fn find_lowest(table: &Table, answer: &mut [u8]) -> u32
     requires jobs_bound { (table.now.jobs ≤ 32) × (table.now.objects ≤ 4096) × (table.now.jobs ≤ length answer.old) }
-    requires stands { Stands table.now.jobs table.now.objects table.now.kind table.now.object }
-    ensures { (k : Stands table.now.jobs table.now.objects table.now.kind table.now.object)
-        → Lowers form1 k.js answer.old answer.new result }
+    requires stands { StandsIn table.now }
+    ensures { (k : StandsIn table.now) → Lowers form1 k.js answer.old answer.new result }
 {
     let sets = conflicts::sets::find(table);
     verdict::lowest::find_lowest(&sets, answer)

@@ -5,7 +5,7 @@ use planner::rows::put;
 use walk::four::Four;
 
 // A danger's four numbers and its chain with the pairs, to `found`; zeros behind them.
-pub fn show<'a>(danger: Four, chain: &'a [u8; 32], pairs: &'a [u8; 64], found: &mut [u8; 128])
+pub fn show(danger: Four, chain: &[u8; 32], pairs: &[u8; 64], found: &mut [u8; 128])
     ensures { found.new
         ≡ danger.t1 ∷ danger.b1 ∷ danger.t2 ∷ danger.tm ∷ (chain.now ++ pairs.now ++ replicate 28 0) }
 {

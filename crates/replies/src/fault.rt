@@ -10,7 +10,7 @@ pub enum Fault {
     Io(io::Error),
 }
 
-// A stream that ends before all its bytes are there is cut; any other error is one of reading or writing.
+// A stream that ends before all its bytes are there is cut; any other error is one of reading or writing. No write ends so.
 impl From<io::Error> for Fault {
     fn from(e: io::Error) -> Fault {
         match e.kind() {

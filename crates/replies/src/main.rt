@@ -19,8 +19,8 @@ struct Stop {
     question: u32,
 }
 
-// The next question, and its line.
-fn answer(rt: &impl Print, input: &mut impl Read, out: &mut Text<'_>) -> Result<(), Fault> {
+// The next question, and its line, which goes out in time.
+fn next(rt: &impl Print, input: &mut impl Read, out: &mut Text<'_>) -> Result<(), Fault> {
     question::answer(input, out)?;
     if out.is_due() {
         out.flush(rt)?;
@@ -39,18 +39,20 @@ fn count(input: &mut impl Read) -> Result<u32, Fault>
     Ok(n)
 }
 
+// Nothing stands behind the last question.
 fn nothing_left(input: &mut impl Read) -> Result<(), Fault> {
-    if input.read(&mut [0])? != 0 {
-        return Err(Fault::Malformed);
+    match question::bytes::<1>(input) {
+        Ok(_) => Err(Fault::Malformed),
+        Err(Fault::Cut) => Ok(()),
+        Err(fault) => Err(fault),
     }
-    Ok(())
 }
 
 // The whole stream: the number of questions, the questions, and nothing behind them.
 fn stream(rt: &impl Print, input: &mut impl Read, out: &mut Text<'_>) -> Result<(), Stop> {
     let n = count(input).map_err(|fault| Stop { fault, question: 0 })?;
     for question in 1..=n {
-        answer(rt, input, out).map_err(|fault| Stop { fault, question })?;
+        next(rt, input, out).map_err(|fault| Stop { fault, question })?;
     }
     let question = n + 1;
     nothing_left(input).map_err(|fault| Stop { fault, question })
@@ -62,7 +64,7 @@ fn main(rt: HostRuntime) -> io::Result<()> {
         bytes: &mut bytes,
         used: 0,
     };
-    // A question takes at most seven reads, so nothing is read ahead.
+    // Nothing is read ahead: that would want a buffer on the heap, or one with its own ends to keep.
     let mut input = rt.stdin();
     if let Err(Stop { fault, question }) = stream(&rt, &mut input, &mut out) {
         let word = match fault {

@@ -62,12 +62,8 @@ impl Lengths {
         } else {
             length(input)?
         };
-        let four = if kind == Kind::Next {
-            length(input)?
-        } else {
-            4
-        };
-        if PART < sheet || PART < list || four != 4 {
+        let fits = kind != Kind::Next || length(input)? == 4;
+        if PART < sheet || PART < list || !fits {
             return Err(Fault::Malformed);
         }
         Ok(Lengths { sheet, list })

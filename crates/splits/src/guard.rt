@@ -18,7 +18,8 @@ pub fn at_ssi(jobs: usize, levels: &[u8]) -> u32
     all
 }
 
-// The jobs that SSI watches together with a split job of this level: those at SSI if it is at SSI itself.
+// The jobs that SSI watches together with a split job of this level: those at SSI if it is at SSI itself. A level is a byte here and above, as
+// lists lend it: every byte has an answer.
 pub fn watched(level: u8, ssi: u32) -> u32
     ensures { (k : ℕ) → bit result k ≡ min (one (leb 2 level)) (bit ssi k) }
 {

@@ -52,6 +52,7 @@ pub fn find_splits(sets: &Sets, t1: usize, level: u8, watch: u32) -> Ends
     let mut first = [0u32; 16];
     let mut last = find_returns(sets, t1, level);
     let mut closed = closed_from_start(&sets.ww, t1, level);
+    // By number: b is the operation's, and both arrays are written.
     for b in 0..16 {
         let i = 16 * t1 + b;
         closed = jobset::union(closed, sets.over(i, 2));

@@ -17,6 +17,7 @@ pub fn put_count(count: u64, out: &mut Text<'_>) {
 pub fn put_levels(levels: &[u8], asked: u32, out: &mut Text<'_>) {
     out.put_word(b"lowest");
     for level in levels {
+        // A level is a byte in the answer buffer.
         let name = match *level {
             0 => "RC",
             1 => "SI",
@@ -24,5 +25,5 @@ pub fn put_levels(levels: &[u8], asked: u32, out: &mut Text<'_>) {
         };
         let _ = write!(out, " {name}");
     }
-    let _ = write!(out, "\nasked {asked}\n");
+    let _ = writeln!(out, "\nasked {asked}");
 }

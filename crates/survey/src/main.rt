@@ -4,7 +4,7 @@
 mod lines;
 
 ghost use Rattle.std.specs.Prelude.{◌≤◌, length};
-ghost use Rattle.conflicts.specs.Laid.{Stands};
+ghost use Rattle.conflicts.specs.SetsOf.{StandsIn};
 ghost use Rattle.planner.specs.Stands.{SetsStand};
 ghost use Rattle.survey.specs.Bytes.{Bytes};
 
@@ -37,7 +37,7 @@ fn put_dangers(rt: &impl Print, sets: &Sets, out: &mut Text<'_>) -> io::Result<(
 {
     let mut count = 0;
     let mut from = Four::from([0; 4]);
-    // No index: each step of the walk begins where the one before it came to.
+    // A `loop`, since each step of the walk begins where the one before it came to.
     loop {
         let step = next_of(sets, &sets.table.level, from);
         let Ok(Some(q)) = step.walk else {
@@ -52,9 +52,7 @@ fn put_dangers(rt: &impl Print, sets: &Sets, out: &mut Text<'_>) -> io::Result<(
 
 // What is printed of a table that was read. Its sets are worked out once, for the walk and for the lowest levels.
 fn put_table(rt: &impl Print, table: &Table, out: &mut Text<'_>) -> io::Result<()>
-    requires { (table.now.jobs ≤ 32)
-        × (table.now.objects ≤ 4096)
-        × Stands table.now.jobs table.now.objects table.now.kind table.now.object }
+    requires { (table.now.jobs ≤ 32) × (table.now.objects ≤ 4096) × StandsIn table.now }
 {
     let sets = find(table);
     put_head(table.jobs, table.objects, out);

@@ -38,6 +38,13 @@ module _ {out : List ℕ} {used : ℕ} {out₁ : List ℕ} {used₁ : ℕ} where
             sets_out _ used₁ b (omega (arith, length-sets out used a, p.counted))
             ∙ sym (sets_out _ (used + length a) b (omega (arith, length-sets out used a)))
 
+-- the four runs of a line
+pub put_line_lem :
+    {out : List ℕ} {used : ℕ} {out₁ : List ℕ} {used₁ : ℕ} {out₂ : List ℕ} {used₂ : ℕ} {out₃ : List ℕ} {used₃ : ℕ} {out₄ : List ℕ} {used₄ : ℕ} (a b c d : List ℕ)
+    → Put a out used out₁ used₁ → Put b out₁ used₁ out₂ used₂ → Put c out₂ used₂ out₃ used₃ → Put d out₃ used₃ out₄ used₄
+    → Put (a ++ b ++ c ++ d) out used out₄ used₄
+put_line_lem a b c d p q r s = put_append (a ++ b ++ c) d (put_append (a ++ b) c (put_append a b p q) r) s
+
 module _ {t u v : Text} where
   pub puts_append : (a b : List ℕ) → Puts t a u → Puts u b v → Puts t (a ++ b) v
   puts_append a b p q = record { put = put_append a b p.put q.put; same_buffer = q.same_buffer ∙ p.same_buffer }
@@ -46,7 +53,9 @@ module _ {t u v : Text} where
   pub puts_more : (word : List ℕ) (i : ℕ) → i < length word → Puts t (take i word) u → Puts u (get_or word i 0 ∷ []) v → Puts t (take (i + 1) word) v
   puts_more word i h p q = rw (add-one, take-suc word i 0) (puts_append (take i word) (get_or word i 0 ∷ []) p q)
 
--- the four runs of a line
 pub puts_line :
     {t u v w x : Text} (a b c d : List ℕ) → Puts t a u → Puts u b v → Puts v c w → Puts w d x → Puts t (a ++ b ++ c ++ d) x
-puts_line a b c d p q r s = puts_append (a ++ b ++ c) d (puts_append (a ++ b) c (puts_append a b p q) r) s
+puts_line a b c d p q r s = record {
+  put = put_line_lem a b c d p.put q.put r.put s.put;
+  same_buffer = s.same_buffer ∙ r.same_buffer ∙ q.same_buffer ∙ p.same_buffer;
+}

@@ -2,14 +2,14 @@
 // no room is left out, so a program writes the buffer away in time.
 #![tactic(auto)]
 
-pub mod lines;
+mod lines;
 
 ghost use Rattle.std.specs.Prelude.{◌≡◌, IsOk, [], ◌∷◌, ◌<◌, ◌/◌, ltb, length, take};
 ghost use Rattle.text.specs.Text.{Puts, decimal, nibble, hexadecimal};
 
 use std::{fmt, io};
 
-// A buffer and how many of its bytes are used. Any number may stand there, so a caller owes nothing.
+// A buffer and how many of its bytes are used, since there is no heap for a `Vec`. Any number may stand there, so a caller owes nothing.
 #[derive(Drop)]
 pub struct Text<'a> {
     pub bytes: &'a mut [u8],
@@ -44,7 +44,7 @@ impl Text<'_> {
         }
     }
 
-    // A number in decimal, by hand: a `write!` says nothing of a text where it fails, and no clause says that it can't.
+    // A number in decimal, by hand: the clauses of `write!` don't tell what it prints, nor that it can't fail.
     pub fn put_number(&mut self, n: u64)
         ensures { Puts self.old (decimal n) self.new }
     {
@@ -56,7 +56,7 @@ impl Text<'_> {
         self.put(b'0' + (n % 10) as u8);
     }
 
-    // A byte as two hexadecimal digits.
+    // A byte as two hexadecimal digits, by hand likewise.
     pub fn put_hex(&mut self, b: u8)
         ensures { Puts self.old (hexadecimal b) self.new }
     {

@@ -21,6 +21,7 @@ impl Text<'_> {
         ensures { Puts self.old (row numbers.now) self.new }
     {
         for n in numbers {
+            // By a name, so that the step is called the same whatever the number is compared with.
             let ended = *n == 0;
             if ended {
                 return;

@@ -56,7 +56,7 @@ fn needed(sets: &Sets) -> u32
     all
 }
 
-// The lowest level of job j; `ssi` has the jobs that need SSI.
+// The lowest level of job j, a byte as the answer buffer wants it; `ssi` has the jobs that need SSI.
 fn level_of(sets: &Sets, j: usize, ssi: u32) -> u8
     requires { j < 32 }
     ensures { (js : Jobs form1) → SetsOf js sets.now → Needed form1 js ssi → LowestOf form1 js j result }

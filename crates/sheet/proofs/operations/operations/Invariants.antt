@@ -2,7 +2,7 @@ use Prim.Native.Nat.{◌+◌, ◌*◌, ◌-◌, ◌≤◌}
 use mathlib.Core.Path.{◌≡◌}
 use Rattle.sheet.specs.Sheet.{operations_at}
 use Rattle.sheet.specs.Marks.{Marked}
-use Rattle.sheet.specs.Answer.{cells_in, SameRows}
+use Rattle.sheet.specs.Filling.{cells_in, SameRows}
 use Rattle.sheet.proofs.operations.operations.Given as goal
 
 abbrev pub invariant-loop-n : goal.invariant-loop-n

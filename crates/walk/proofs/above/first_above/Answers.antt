@@ -37,12 +37,12 @@ loop-tm-preserved c =
 pub loop-t2-preserved : goal.loop-t2-preserved
 loop-t2-preserved c =
     next_first _ _ _ _ _ _ _ c.loop-b1.invariant.0 (omega arith) _ c.firsts_of-firsts.ensures _ _ c.lasts_of-lasts.ensures
-    (omega arith) c.end_of-tm-end.ensures.behind.1 c.loop-tm-test.false (go_on _ c.loop-t2.invariant c.loop-tm.invariant)
+    (omega arith) c.end_of-tm-end.ensures.1 c.loop-tm-test.false (go_on _ c.loop-t2.invariant c.loop-tm.invariant)
 
 pub loop-b1-preserved : goal.loop-b1-preserved
 loop-b1-preserved c = (
   c.loop-b1.invariant.0,
-  next_operation _ _ _ _ _ _ _ c.loop-b1.invariant.0 (omega arith) _ c.firsts_of-firsts.ensures _ c.end_of-t2-end.ensures.behind.1
+  next_operation _ _ _ _ _ _ _ c.loop-b1.invariant.0 (omega arith) _ c.firsts_of-firsts.ensures _ c.end_of-t2-end.ensures.1
       c.loop-t2-test.false (go_on _ c.loop-b1.invariant.1 c.loop-t2.invariant),
 )
 

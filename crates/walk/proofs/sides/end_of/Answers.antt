@@ -1,13 +1,11 @@
--- A set is below the power of 2 behind its highest job.
-use Rattle.std.specs.Prelude.{◌≡◌, ◌-◌}
-use Rattle.std.specs.Int.Count.{count_leading_zeros}
+-- An empty set has no job, and a word's jobs are below 32.
 use native.Mathlib.Omega.{arith}
-use Rattle.std.proofs.lemmas.Nat.{leading_length}
-use Rattle.jobset.specs.JobsetLaws.{member_below}
+use borrow.Author.Tests.{eq-eqb, ne_eqb}
+use Rattle.jobset.specs.JobsetLaws.{member_below, member_pos}
 use Rattle.walk.proofs.sides.end_of.Goals as goal
 
-pub returns : goal.returns
-returns c =
-    let top = leading_length 32 c.args.m c.ranges.m.fits in
-    let e : 32 - count_leading_zeros 32 c.args.m ≡ top.0 = omega (arith, top.1) in
-    record { behind = (omega arith, λ k b. omega (arith, e, member_below top.0 c.args.m k top.2 b)); tight = rw e top.3 }
+pub returns-then-m-eq0 : goal.returns-then-m-eq0
+returns-then-m-eq0 c = (omega arith, λ k e. omega (arith, member_pos c.args.m k e, c.if-m-eq0.true), simp (eq-eqb _ _ c.if-m-eq0.true))
+
+pub returns-else-m-eq0 : goal.returns-else-m-eq0
+returns-else-m-eq0 c = (omega arith, λ k e. member_below 32 _ k (omega arith) e, simp (ne_eqb _ _ c.if-m-eq0.false))
