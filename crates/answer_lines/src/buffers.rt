@@ -4,9 +4,17 @@ use sheet::Refusal;
 use std::fmt::Write;
 use text::Text;
 
-// The number or the refusal, and the whole buffer.
-fn put_handed(word: &str, handed: Result<u32, Refusal>, buffer: &[u8], out: &mut Text<'_>) {
-    match handed {
+// The word with the number that the question answers, or the refusal, and then the whole buffer.
+pub fn put_answer<Q: FnOnce(&[u8], &mut [u8]) -> Result<u32, Refusal>>(
+    word: &str,
+    question: Q,
+    sheet: &[u8],
+    buffer: &mut [u8],
+    out: &mut Text<'_>,
+)
+    requires { Q.IsAlwaysCallable question }
+{
+    match question(sheet, buffer) {
         Ok(n) => {
             let _ = write!(out, "{word} {n}");
         }
@@ -17,15 +25,4 @@ fn put_handed(word: &str, handed: Result<u32, Refusal>, buffer: &[u8], out: &mut
         out.put(b' ');
         out.put_hex(*b);
     }
-}
-
-// Two functions, since each names its own question: with the question as a parameter they would be no shorter.
-pub fn put_lowest(sheet: &[u8], buffer: &mut [u8], out: &mut Text<'_>) {
-    let handed = planner::lowest(sheet, buffer);
-    put_handed("lowest", handed, buffer, out);
-}
-
-pub fn put_levels(sheet: &[u8], buffer: &mut [u8], out: &mut Text<'_>) {
-    let handed = planner::own_levels(sheet, buffer);
-    put_handed("levels", handed, buffer, out);
 }

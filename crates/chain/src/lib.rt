@@ -90,15 +90,15 @@ impl Paths<'_> {
     }
 }
 
-// The jobs that conflict with some job of a set. That there are 32 rows is known here, where the array comes by itself, and not in a method,
-// where it lies behind a field.
+// The jobs that conflict with some job of a set. A free function: that there are 32 rows is known of an array argument, not of one behind a
+// field.
 fn around(clash: &[u32; 32], jobs: u32) -> u32
     ensures near { Around clash.now jobs result }
     ensures rows { length clash.now ≡ 32 }
 {
     let mut near: u32 = 0;
     let mut left = jobs;
-    // Likewise the lowest job in turn, by trailing zeros.
+    // A `while` over the jobs left, the lowest in turn (document 01, "The shape of each place").
     while 0 < left {
         let job = jobset::lowest(left);
         near = jobset::union(near, clash[job as usize]);

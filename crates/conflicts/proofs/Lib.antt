@@ -1,4 +1,5 @@
 pub mod Among
+pub mod FrontLaws
 pub mod WritersLaws
 pub mod SetsLaws
 pub mod RelationLaws

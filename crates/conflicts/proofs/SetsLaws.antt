@@ -1,15 +1,17 @@
 -- The sets of jobs that a job conflicts with, entry by entry of the arrays.
 -- Assumes nothing.
-use Prim.Native.Nat.{ℕ, zero, suc, ◌+◌, ◌*◌, ◌-◌, max}
+use Prim.Native.Nat.{ℕ, zero, suc, ◌+◌, ◌*◌, ◌-◌, ◌≤◌, ◌<◌, max}
 use mathlib.Core.Path.{◌≡◌, refl, sym, ap, ◌∙◌}
 use mathlib.Core.Bool.{Bool, true, false, not, ◌&&◌}
-use mathlib.Core.List.{List}
+use mathlib.Core.List.{List, ◌++◌}
 use native.Mathlib.Omega.{arith}
 use lib.Dec.{eqb}
-use lib.ListN.{get_or, replicate, length-replicate}
+use lib.ListN.{length, get_or, take, drop, replicate, length-replicate}
 use Rattle.jobset.specs.Jobset.{bit, one}
 use Rattle.conflicts.specs.Sets.{Has, over}
 use Rattle.conflicts.specs.Found.{among, in?, Filled, Over, Turned, Any}
+use Rattle.std.proofs.Common.{length-take-le}
+use Rattle.conflicts.proofs.FrontLaws.{length_kept, in_front, behind_front}
 use Rattle.conflicts.proofs.Among.{digit_in, has_none, has_more, has_skip, among_at}
 use Rattle.conflicts.proofs.RelationLaws.{and_none}
 
@@ -18,9 +20,19 @@ zeros zero j = refl
 zeros (suc n) zero = refl
 zeros (suc n) (suc j) = zeros n j
 
-module _ (P : ℕ → ℕ → Type 0) (sets : List ℕ) where
-  pub filled_none : sets ≡ replicate 32 0 → Filled 0 P sets
-  filled_none e = rw e (record { as_long = length-replicate {A = ℕ} 32 0; done = λ j h. absurd (omega arith); rest = λ j h. zeros 32 j })
+-- the first n entries are as they should be, and the others as they were: no job
+pub filled_front : (P : ℕ → ℕ → Type 0) (n m : ℕ) (front : List ℕ) → length front ≡ length {A = ℕ} (take n (replicate 32 0)) → n ≤ 32 → length front ≤ m → ((j : ℕ) → j < m → P j (get_or front j 0)) → Filled n P (front ++ drop n (replicate 32 0))
+filled_front P n m front e small all f = record {
+  as_long = length_kept n front (replicate 32 0) full room ∙ length-replicate {A = ℕ} 32 0;
+  done = λ j h. rw (in_front n front (replicate 32 0) full j h) (f j (omega (arith, full)));
+  rest = λ j h. behind_front n front (replicate 32 0) full j h ∙ zeros 32 j;
+}
+  where
+    room : n ≤ length {A = ℕ} (replicate 32 0)
+    room = omega (arith, length-replicate {A = ℕ} 32 0)
+
+    full : length front ≡ n
+    full = e ∙ length-take-le n (replicate 32 0) room
 
 -- the same by a weaker test of each entry
 pub filled_as : (P Q : ℕ → ℕ → Type 0) (n : ℕ) (sets : List ℕ) → ((j m : ℕ) → P j m → Q j m) → Filled n P sets → Filled n Q sets

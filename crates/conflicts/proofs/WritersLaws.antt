@@ -4,19 +4,21 @@ use Prim.Native.Nat.{ℕ, ◌+◌, ◌-◌, ◌/◌, ◌≤◌, ◌<◌, max}
 use mathlib.Core.Path.{◌≡◌, refl, sym, ap, ◌∙◌}
 use mathlib.Core.Logic.{inl, inr}
 use mathlib.Core.Bool.{Bool, true, false, ◌&&◌}
-use mathlib.Core.List.{List}
+use mathlib.Core.List.{List, ◌++◌}
 use native.Mathlib.Nat.{eq-or-lt_of_le}
 use native.Mathlib.Decide.{ℕ_discrete, dec_lt}
 use native.Mathlib.Omega.{arith}
 use lib.Dec.{eqb}
-use lib.ListN.{length, get_or, set, replicate, length-set, length-replicate, get_or-replicate}
+use lib.ListN.{length, get_or, set, take, drop, replicate, length-set, length-replicate, get_or-replicate}
 use lib.Seq.{get_or-set_same, get_or-set_other}
+use Rattle.std.proofs.Common.{get_or-take, length-take-le}
 use borrow.Author.Tests.{eqb-true, eq-eqb}
 use Rattle.jobset.specs.Jobset.{bit, one}
 use Rattle.jobset.specs.JobsetLaws.{bit_none}
 use Rattle.sheet.specs.ReadLaws.{zeros}
 use Rattle.conflicts.specs.Sets.{Has}
 use Rattle.conflicts.specs.Found.{write?, writes?, Gathered, Handed, WritesBelow, Written}
+use Rattle.conflicts.proofs.FrontLaws.{length_kept, in_front, behind_front}
 use Rattle.conflicts.proofs.Among.{same_test, among_out, has_none, has_more, has_skip}
 
 module _ (kind object : List ℕ) (x i : ℕ) where
@@ -97,6 +99,21 @@ module _ (object seen : List ℕ) (from : ℕ) (old : List ℕ) where
             )
         | inr q ↦ get_or-set_other new n i (get_or seen t 0) 0 (λ z. omega arith) ∙ d.inside i s q k e
       ]
+
+-- the writing went to the first n entries alone
+pub handed_front : (object seen : List ℕ) (n from : ℕ) (old front : List ℕ) → n ≤ length old → Handed object seen n from (take n old) front → Handed object seen n from old (front ++ drop n old)
+handed_front object seen n from old front room d = record {
+  as_long = length_kept n front old full room;
+  inside = λ i s h l e. in_front n front old full i h ∙ d.inside i s h l e;
+  outside = λ i g. cases i g (dec_lt i n);
+}
+  where
+    full : length front ≡ n
+    full = d.as_long ∙ length-take-le n old room
+
+    cases : (i : ℕ) → ((s : ℕ) → i < n → s < 512 → get_or object i 0 ≡ from + s → ⊥) → Dec (i < n) → get_or (front ++ drop n old) i 0 ≡ get_or old i 0
+    cases i g (yes h) = in_front n front old full i h ∙ d.outside i g ∙ get_or-take n old i 0 h
+    cases i g (no h) = behind_front n front old full i (omega arith)
 
 -- of the first n entries those on an object below `top` have the jobs that write it, all others have none
 pub record WrittenTo (kind object : List ℕ) (n top : ℕ) (writers : List ℕ) : Type 0 where

@@ -76,8 +76,8 @@ fn fill<F: Fn(usize) -> u32>(jobs: usize, set: F) -> [u32; 32]
     ensures { Filled jobs (F.post set) result }
 {
     let mut sets = [0u32; 32];
-    for j in 0..jobs {
-        sets[j] = set(j);
+    for (j, place) in sets[..jobs].iter_mut().enumerate() {
+        *place = set(j);
     }
     sets
 }

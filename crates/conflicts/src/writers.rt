@@ -22,9 +22,9 @@ fn gather(end: usize, table: &Table, from: usize, seen: &mut [u32; 512])
     requires { (end ≤ 512) × (seen.old ≡ replicate 512 0) }
     ensures { Gathered table.now.kind table.now.object end from seen.new }
 {
-    // By index, since operation i is one of job i / 16: a `zip` with an `enumerate` round it would be no plainer.
-    for i in 0..end {
-        if table.kind[i] == 2 {
+    // Operation i is one of job i / 16.
+    for (i, kind) in table.kind[..end].iter().enumerate() {
+        if *kind == 2 {
             if let Some(s) = place(table.object[i], from) {
                 seen[s] = with(seen[s], (i / 16) as u32);
             }
@@ -37,10 +37,9 @@ fn hand_out(end: usize, table: &Table, from: usize, seen: &[u32; 512], writers: 
     requires { (end ≤ 512) × (length writers.old ≡ 512) }
     ensures { Handed table.now.object seen.now end from writers.old writers.new }
 {
-    // By index: nothing can be proved of what is written through an `iter_mut` that is zipped.
-    for i in 0..end {
+    for (i, writer) in writers[..end].iter_mut().enumerate() {
         if let Some(s) = place(table.object[i], from) {
-            writers[i] = seen[s];
+            *writer = seen[s];
         }
     }
 }

@@ -85,8 +85,8 @@ pub fn answer(input: &mut impl Read, out: &mut Text<'_>) -> Result<(), Fault> {
         Kind::Read => reading::put_answer(sheet, out),
         Kind::Judge => judging::put_answer(sheet, list, out),
         Kind::Next => walking::put_answer(sheet, list, &bytes(input)?, out),
-        Kind::Lowest => buffers::put_lowest(sheet, list, out),
-        Kind::Levels => buffers::put_levels(sheet, list, out),
+        Kind::Lowest => buffers::put_answer("lowest", planner::lowest, sheet, list, out),
+        Kind::Levels => buffers::put_answer("levels", planner::own_levels, sheet, list, out),
     }
     out.put(b'\n');
     Ok(())

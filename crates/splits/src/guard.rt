@@ -4,7 +4,7 @@ ghost use Rattle.jobset.specs.Jobset.{bit, one};
 ghost use Rattle.conflicts.specs.Sets.{Has};
 ghost use Rattle.splits.specs.Splits.{ssi?};
 
-// The jobs at SSI.
+// The jobs at SSI, of the first `jobs` in a list: callers lend the list that they were lent, which may be longer.
 pub fn at_ssi(jobs: usize, levels: &[u8]) -> u32
     requires { (jobs ≤ 32) × (jobs ≤ length levels.now) }
     ensures { Has result (ssi? jobs levels.now) }

@@ -5,6 +5,7 @@ ghost use Rattle.splits.specs.Splits.{SplitsOf, ShutBy};
 ghost use Rattle.splits.specs.Steps.{ReturnsOf};
 
 use crate::guard::unnoticed;
+use chain::Paths;
 use conflicts::sets::Sets;
 
 // For each operation of job t1 the jobs that meet condition 5: those that are rw with t1, and if it is at RC those that conflict with a
@@ -15,6 +16,7 @@ fn find_returns(sets: &Sets, t1: usize, level: u8) -> [u32; 16]
 {
     let mut last = [0u32; 16];
     let mut all = sets.wr[t1];
+    // By number: tried as `last.iter_mut().enumerate().rev()`, but nothing can be proved of what is written through an `iter_mut` turned round.
     for b in (0..16).rev() {
         last[b] = all;
         if level < 1 {
@@ -52,7 +54,7 @@ pub fn find_splits(sets: &Sets, t1: usize, level: u8, watch: u32) -> Ends
     let mut first = [0u32; 16];
     let mut last = find_returns(sets, t1, level);
     let mut closed = closed_from_start(&sets.ww, t1, level);
-    // By number: b is the operation's, and both arrays are written.
+    // By number: both arrays are written, and nothing can be proved of what is written through two `iter_mut` that are zipped.
     for b in 0..16 {
         let i = 16 * t1 + b;
         closed = jobset::union(closed, sets.over(i, 2));
@@ -69,4 +71,16 @@ pub fn shut_by(clash: &[u32; 32], t1: usize) -> u32
     ensures { ShutBy clash.now t1 result }
 {
     jobset::with(clash[t1], t1 as u32)
+}
+
+// The paths that a chain for split job t1 may take: none goes through t1 or a job that conflicts with it (condition 1).
+pub fn paths_of<'a>(clash: &'a [u32; 32], t1: usize) -> Paths<'a>
+    requires { t1 < 32 }
+    ensures same { result.clash ≡ clash.entry }
+    ensures shut { ShutBy clash.now t1 result.shut }
+{
+    Paths {
+        clash,
+        shut: shut_by(clash, t1),
+    }
 }

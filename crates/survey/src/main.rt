@@ -19,10 +19,10 @@ use verdict::lowest::find_lowest;
 use walk::four::Four;
 
 // A danger and its chain. That its numbers are bytes tells whoever walks on that there is an end.
-fn put_found(rt: &impl Print, q: Four, chain: &[u8; 32], out: &mut Text<'_>) -> io::Result<()>
-    ensures { Bytes q }
+fn put_found(rt: &impl Print, danger: Four, chain: &[u8; 32], out: &mut Text<'_>) -> io::Result<()>
+    ensures { Bytes danger }
 {
-    out.put_danger(&q.into(), chain);
+    out.put_danger(&danger.into(), chain);
     out.put(b'\n');
     if out.is_due() {
         return out.flush(rt);
@@ -40,13 +40,13 @@ fn put_dangers(rt: &impl Print, sets: &Sets, out: &mut Text<'_>) -> io::Result<(
     // A `loop`, since each step of the walk begins where the one before it came to.
     loop {
         let step = next_of(sets, &sets.table.level, from);
-        let Ok(Some(q)) = step.walk else {
+        let Ok(Some(danger)) = step.walk else {
             put_count(count, out);
             return Ok(());
         };
-        put_found(rt, q, &step.chain, out)?;
+        put_found(rt, danger, &step.chain, out)?;
         count += 1;
-        from = q;
+        from = danger;
     }
 }
 

@@ -24,7 +24,7 @@ fn hex_digit(d: u8) -> u8
 }
 
 impl Text<'_> {
-    // One byte more.
+    // One byte more. By index: the proof over `get_mut` did not close.
     pub fn put(&mut self, b: u8)
         ensures { Puts self.old (b ∷ []) self.new }
     {
@@ -44,7 +44,7 @@ impl Text<'_> {
         }
     }
 
-    // A number in decimal, by hand: the clauses of `write!` don't tell what it prints, nor that it can't fail.
+    // A number in decimal, by hand: no clause of `write!` tells what it prints, or that it can't fail.
     pub fn put_number(&mut self, n: u64)
         ensures { Puts self.old (decimal n) self.new }
     {

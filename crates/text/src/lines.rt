@@ -1,4 +1,4 @@
-// What the programs print alike of a refusal and of a danger.
+// What the programs print alike of a refusal and of a danger, put by hand: the promise is `Puts`, and no clause tells what a `write!` prints.
 ghost use Rattle.std.specs.Prelude.{◌≡◌};
 ghost use Rattle.text.specs.Text.{Puts};
 ghost use Rattle.text.specs.Lines.{row, refusal_line, danger_line};
@@ -13,6 +13,7 @@ impl Text<'_> {
         self.put_word(b"refused ");
         self.put_number(u64::from(number));
         self.put_word(b" at ");
+        // `as`, since no `From` goes from usize to u64.
         self.put_number(place as u64);
     }
 
@@ -21,7 +22,7 @@ impl Text<'_> {
         ensures { Puts self.old (row numbers.now) self.new }
     {
         for n in numbers {
-            // By a name, so that the step is called the same whatever the number is compared with.
+            // A local, so that the proof's goal keeps its name under the edit `row_ends_at_one`.
             let ended = *n == 0;
             if ended {
                 return;

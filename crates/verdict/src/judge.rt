@@ -7,11 +7,10 @@ ghost use Rattle.conflicts.specs.SetsOf.{SetsOf};
 ghost use Rattle.splits.specs.Splits.{watch?};
 ghost use Rattle.verdict.specs.Verdict.{SplitBy, Judged};
 
-use chain::Paths;
 use conflicts::sets::Sets;
 use splits::guard::{at_ssi, unnoticed, watched};
 use splits::meet::meets;
-use splits::split::{find_splits, shut_by};
+use splits::split::{find_splits, paths_of};
 
 // Job t1 is the split job of a danger at RC, whatever the levels of the others.
 pub fn is_split_at_rc(sets: &Sets, t1: usize) -> bool
@@ -19,10 +18,7 @@ pub fn is_split_at_rc(sets: &Sets, t1: usize) -> bool
     ensures { (js : Jobs form1) → SetsOf js sets.now → (lv : ℕ → ℕ) → lv t1 ≡ 0 → SplitBy form1 js lv t1 result }
 {
     let ends = find_splits(sets, t1, 0, 0);
-    let paths = Paths {
-        clash: &sets.clash,
-        shut: shut_by(&sets.clash, t1),
-    };
+    let paths = paths_of(&sets.clash, t1);
     ends.first
         .iter()
         .zip(&ends.last)
@@ -39,10 +35,7 @@ fn is_split_above_rc(sets: &Sets, t1: usize, watch: u32) -> bool
     let back = sets.wr[t1];
     let first = unnoticed(jobset::without(out, closed), watch, back);
     let last = unnoticed(jobset::without(back, closed), watch, out);
-    let paths = Paths {
-        clash: &sets.clash,
-        shut: shut_by(&sets.clash, t1),
-    };
+    let paths = paths_of(&sets.clash, t1);
     meets(paths, jobset::without(first, watch), last)
         || meets(
             paths,

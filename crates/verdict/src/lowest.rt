@@ -10,7 +10,7 @@ ghost use Rattle.verdict.specs.Verdict.{Lowers};
 use crate::judge::is_split_at_rc;
 use chain::Paths;
 use conflicts::sets::Sets;
-use splits::split::shut_by;
+use splits::split::paths_of;
 
 // The jobs each of which alone below SSI makes a danger for a split job at SSI: by condition 6 it is first or last itself,
 // and by 7 and 8 the other end of the chain, if it is another job, may only be the one of the two.
@@ -33,10 +33,7 @@ fn needed_by(sets: &Sets, t1: usize) -> u32
     let closed = sets.ww[t1];
     let first = jobset::without(sets.rw[t1], closed);
     let last = jobset::without(sets.wr[t1], closed);
-    let paths = Paths {
-        clash: &sets.clash,
-        shut: shut_by(&sets.clash, t1),
-    };
+    let paths = paths_of(&sets.clash, t1);
     let hit = hit_by(paths, first, last);
     if hit == 0 {
         return 0;

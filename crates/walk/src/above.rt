@@ -11,14 +11,14 @@ ghost use Rattle.walk.specs.Answers.{named, answered};
 use crate::four::{Four, Indices, ZEROS};
 use crate::sides::{end_of, firsts_of, lasts_of};
 use crate::start::start_above;
-use chain::Paths;
 use conflicts::sets::Sets;
 use splits::guard::{at_ssi, watched};
-use splits::split::{find_splits, shut_by};
+use splits::split::{find_splits, paths_of};
 
-// Split jobs, their operations, first jobs and last jobs in turn from where the numbers given point, left from inside with the danger found.
-// What depends on the split job alone, on its operation, and on the first job is worked out once for each. The numbers given are passed as soon
-// as an inner loop has ended: loops that begin after that begin at 0. The loops are over numbers, since the answer is made of these.
+// Split jobs, their operations, first jobs and last jobs in turn from where the numbers given point, left from inside with the danger found
+// (document 01, "The shape of each place"). The loops are over numbers, since the answer is made of these. What depends on the split job alone,
+// on its operation, and on the first job is worked out once for each. The numbers given are passed as soon as an inner loop has ended: loops
+// that begin after that begin at 0.
 pub fn first_above(sets: &Sets, levels: &[u8], given: Four) -> Option<Four>
     requires { (sets.now.table.now.jobs ≤ 32) × (sets.now.table.now.jobs ≤ length levels.now) }
     ensures { (js : Jobs form1)
@@ -33,10 +33,7 @@ pub fn first_above(sets: &Sets, levels: &[u8], given: Four) -> Option<Four>
             let level = levels[t1];
             let watch = watched(level, ssi);
             let ends = find_splits(sets, t1, level, watch);
-            let paths = Paths {
-                clash: &sets.clash,
-                shut: shut_by(&sets.clash, t1),
-            };
+            let paths = paths_of(&sets.clash, t1);
             for b1 in start.b1..16 {
                 let may_end = ends.last[b1];
                 let firsts = firsts_of(paths, ends.first[b1], may_end);

@@ -31,7 +31,7 @@ pub(crate) const ZEROS: Indices = Indices {
 };
 
 impl Four {
-    // Every danger's numbers are at least 1.
+    // The same four counted from 0. None may be 0; a danger's are at least 1.
     pub fn indices(self) -> Indices
         requires { (0 < self.t1) × (0 < self.b1) × (0 < self.t2) × (0 < self.tm) }
         ensures { named self ≡ from_one_lem result.t1 result.b1 result.t2 result.tm }

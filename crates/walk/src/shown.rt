@@ -3,10 +3,9 @@ ghost use Rattle.std.specs.Prelude.{◌≡◌, ◌++◌, suc, ◌+◌, ◌*◌, 
 ghost use Rattle.walk.specs.ShownIn.{DangerIn, ShownIn, ToPair, pair_row};
 
 use crate::four::Indices;
-use chain::Paths;
 use conflicts::pairs::{Pair, lowest_pair, partner};
 use conflicts::sets::Sets;
-use splits::split::shut_by;
+use splits::split::paths_of;
 
 // Pair `at` gets its two operations, which count from 0 here and from 1 in the array; `as u8`, since no `From` narrows.
 fn put_pair(pairs: &mut [u8; 64], at: usize, pair: Pair)
@@ -39,7 +38,7 @@ fn write_pairs(sets: &Sets, level: u8, danger: Indices, chain: &[u8], pairs: &mu
     let mut from = t2 as usize;
     let later = partner(table, t1, b1, from, 16).unwrap();
     put_pair(pairs, 0, Pair { earlier: b1, later });
-    // The index is also the pair's place.
+    // By number, which is also the pair's place: `enumerate` and `skip` would be no plainer.
     for at in 1..chain.len() {
         let to = usize::from(chain[at] - 1);
         put_pair(pairs, at, lowest_pair(table, from, to, 0).unwrap());
@@ -67,10 +66,7 @@ pub fn show(
     ensures { (d : DangerIn sets.now.table.now.kind sets.now.table.now.object sets.now.clash level danger.t1 danger.b1 danger.t2 danger.tm)
         → ShownIn d.js d.lv danger.t1 danger.b1 danger.t2 danger.tm chain.old chain.new pairs.old pairs.new result }
 {
-    let paths = Paths {
-        clash: &sets.clash,
-        shut: shut_by(&sets.clash, danger.t1),
-    };
+    let paths = paths_of(&sets.clash, danger.t1);
     let n = paths.show(danger.t2, danger.tm, chain).unwrap();
     // `as usize`, since usize has no `From<u32>`
     write_pairs(sets, level, danger, &chain[..n as usize], pairs);

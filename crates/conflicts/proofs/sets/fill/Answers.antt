@@ -1,8 +1,10 @@
 -- `fill` meets its contract: before each turn the entries passed are as they should be.
 -- Assumes nothing.
-use mathlib.Core.Path.{refl}
-use Rattle.conflicts.proofs.SetsLaws.{filled_none}
+use native.Mathlib.Omega.{arith}
+use Rattle.conflicts.proofs.SetsLaws.{filled_front}
 use Rattle.conflicts.proofs.sets.fill.Goals as goal
 
-pub loop-j-init : goal.loop-j-init
-loop-j-init g c = filled_none _ _ refl
+pub returns : goal.returns
+returns g c =
+    let at = c.loop-j in
+    filled_front _ _ _ _ at.auto.place-items c.requires.jobs_bound (omega (arith, c.loop-j-test.false)) at.invariant

@@ -17,7 +17,7 @@ loop-b1-init c =
       record {
         known = omega (arith, c.loop-t1-test.true, c.requires);
         ssi = ssi;
-        closed = λ js of. c.shut_by.ensures js _ _ _ _ _ of;
+        closed = λ js of. c.paths_of-paths.ensures.shut js _ _ _ _ _ of;
         splits = λ js of. c.find_splits-ends.ensures.splits js (level_of_lem jobs levels) _ of (level_of_is jobs levels c.loop-t1.t1 c.loop-t1-test.true) ssi;
       },
       set_out _ _ _ _ _ c.loop-t1.invariant.small,
@@ -31,18 +31,18 @@ loop-tm-init c = set_out _ _ _ _ _ c.loop-t2.invariant.small
 
 pub loop-tm-preserved : goal.loop-tm-preserved
 loop-tm-preserved c =
-    next_last _ _ _ _ _ _ _ c.loop-b1.invariant.0 (omega arith) _ c.firsts_of-firsts.ensures _ c.lasts_of-lasts.ensures
+    next_last _ _ _ _ _ _ _ c.loop-b1.invariant.0 (omega arith) _ (rw c.paths_of-paths.ensures.same at c.firsts_of-firsts.ensures) _ (rw c.paths_of-paths.ensures.same at c.lasts_of-lasts.ensures)
     (omega arith) (sym c.has.ensures ∙ c.if-has.false) c.loop-tm.invariant
 
 pub loop-t2-preserved : goal.loop-t2-preserved
 loop-t2-preserved c =
-    next_first _ _ _ _ _ _ _ c.loop-b1.invariant.0 (omega arith) _ c.firsts_of-firsts.ensures _ _ c.lasts_of-lasts.ensures
+    next_first _ _ _ _ _ _ _ c.loop-b1.invariant.0 (omega arith) _ (rw c.paths_of-paths.ensures.same at c.firsts_of-firsts.ensures) _ _ (rw c.paths_of-paths.ensures.same at c.lasts_of-lasts.ensures)
     (omega arith) c.end_of-tm-end.ensures.1 c.loop-tm-test.false (go_on _ c.loop-t2.invariant c.loop-tm.invariant)
 
 pub loop-b1-preserved : goal.loop-b1-preserved
 loop-b1-preserved c = (
   c.loop-b1.invariant.0,
-  next_operation _ _ _ _ _ _ _ c.loop-b1.invariant.0 (omega arith) _ c.firsts_of-firsts.ensures _ c.end_of-t2-end.ensures.1
+  next_operation _ _ _ _ _ _ _ c.loop-b1.invariant.0 (omega arith) _ (rw c.paths_of-paths.ensures.same at c.firsts_of-firsts.ensures) _ c.end_of-t2-end.ensures.1
       c.loop-t2-test.false (go_on _ c.loop-b1.invariant.1 c.loop-t2.invariant),
 )
 
@@ -56,5 +56,5 @@ returns-after-loop-t1 c =
 pub returns-then-has : goal.returns-then-has
 returns-then-has c =
     let passed = go_on _ c.loop-t1.invariant (go_on _ c.loop-b1.invariant.1 (go_on _ c.loop-t2.invariant c.loop-tm.invariant)) in
-    λ js of n. rw c.four.ensures (finds _ _ _ _ c.start_above-start.ensures js of n _ _ _ _ c.loop-b1.invariant.0 (omega arith) _ c.firsts_of-firsts.ensures _
-    c.lasts_of-lasts.ensures (sym c.has.ensures ∙ c.if-has.true) passed)
+    λ js of n. rw c.four.ensures (finds _ _ _ _ c.start_above-start.ensures js of n _ _ _ _ c.loop-b1.invariant.0 (omega arith) _ (rw c.paths_of-paths.ensures.same at c.firsts_of-firsts.ensures) _
+    (rw c.paths_of-paths.ensures.same at c.lasts_of-lasts.ensures) (sym c.has.ensures ∙ c.if-has.true) passed)
