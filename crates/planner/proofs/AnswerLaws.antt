@@ -19,12 +19,15 @@ use Rattle.sheet.specs.ReadTable.{ReadTable}
 use Rattle.conflicts.specs.Laid.{Stands}
 use Rattle.conflicts.specs.LaidLaws.{count_read, laid_read, below_read}
 use Rattle.planner.proofs.CheckLaws.{passed_length, passed_room}
-use Rattle.planner.specs.Checks.{levels_at, room_at, checked_of, checked_with, sheet_with, with_room}
-use Rattle.planner.specs.Questions.{Answers, Walks, walk_of, Walked, InBuffer, Copies}
+use Rattle.planner.specs.Checks.{levels_at, room_at, checked_of, checked_with, sheet_with, with_levels, with_room}
+use Rattle.planner.specs.Questions.{Answers, Walks, walk_of, Walked, NoChain, InBuffer, Copies}
 use Rattle.planner.specs.declared.WalkAnswer.{WalkAnswer}
 use Rattle.walk.specs.declared.four.Four.{Four}
 
 module _ {A B : Type 0} (R : A → B → Type 0) (x : Step A) where
+  pub answers_refused : (r : Refusal) → x ≡ fault_of r → Answers R x (fault_of r)
+  answers_refused r e = rw e (refl, refl)
+
   pub answers_passed : (a : A) (b : B) → x ≡ ok a → R a b → Answers R x (ok b)
   answers_passed a b e h = rw e h
 
@@ -94,6 +97,9 @@ answers_as R S a c f (ok b) h = f b h
 answers_as R S a c f (fault number place) h = absurd h
 
 module _ (s ls : List ℕ) (above : Four) (a : WalkAnswer) where
+  pub walk_refused : (r : Refusal) → with_levels s ls ≡ fault_of r → a.walk ≡ Err r → NoChain a → Walked s ls above a
+  walk_refused r e f none = record { outcome = rw f (answers_refused _ _ r e); refused = λ _ _. none }
+
   pub walk_told : (t : Table) → Ready (by_levels ls) s t → Answers (λ js. Walks ls above a js) (ok (jobs_of t)) (walk_of a.walk) → Walked s ls above a
   walk_told t h told = record {
     outcome = rw h.passed (answers_as (λ js. Walks ls above a js) (λ t. Walks ls above a (jobs_of t)) (jobs_of t) t (λ w p. p) (walk_of a.walk) told);
@@ -103,7 +109,7 @@ module _ (s ls : List ℕ) (above : Four) (a : WalkAnswer) where
 -- levels handed out, over what stands in the buffer
 module _ (R : Table → (before after : List ℕ) → ℕ → Type 0) (s before : List ℕ) where
   pub buffer_kept : (r : Refusal) → fault_of r ≡ with_room s (length before) → InBuffer R s before before (Err r)
-  buffer_kept r e = record { outcome = rw (← e) (refl, refl); refused = λ _ _. refl }
+  buffer_kept r e = record { outcome = answers_refused (λ t. R t before before) _ r (sym e); refused = λ _ _. refl }
 
   pub buffer_filled : (t : Table) → Ready (by_room (length before)) s t → (after : List ℕ) (n : ℕ) → R t before after n → InBuffer R s before after (Ok n)
   buffer_filled t h after n filled = record {

@@ -1,6 +1,6 @@
 -- Laws of the checks of a list of levels and of an answer buffer.
 -- Assumes nothing.
-use Prim.Native.Nat.{ℕ, suc, ◌≤◌, ◌<◌}
+use Prim.Native.Nat.{ℕ, suc, ◌+◌, ◌≤◌, ◌<◌}
 use mathlib.Core.Path.{◌≡◌, refl}
 use mathlib.Core.List.{List, [], ◌∷◌}
 use Rattle.std.specs.Prelude.{Option, Some, None, nat_lt, cond, Bool, true, false}
@@ -9,9 +9,20 @@ use native.Mathlib.Numerals.{add-one}
 use native.Mathlib.Decide.{ℕ_discrete, dec_le}
 use native.Mathlib.Omega.{arith}
 use borrow.Author.Tests.{lt-ltb, le-ltb, eq-eqb, ne_eqb}
-use lib.ListN.{length}
+use lib.ListN.{length, get_or, drop}
+use lib.Seq.{drop-cons}
 use Rattle.sheet.specs.Step.{Step, ok, fault, refuse}
 use Rattle.planner.specs.Checks.{none_above, levels_at, room_at}
+
+-- one level: it is above top, or the later ones decide
+module _ (top : ℕ) (ls : List ℕ) (i : ℕ) where
+  pub above_here : i < length ls → top < get_or ls i 0 → none_above top i (drop i ls) ≡ fault 14 i
+  unfolding none_above refuse
+  above_here h l = rw (drop-cons ls i 0) (simp (lt-ltb _ _ l))
+
+  pub above_later : i < length ls → get_or ls i 0 ≤ top → none_above top i (drop i ls) ≡ none_above top (i + 1) (drop (i + 1) ls)
+  unfolding none_above refuse
+  above_later h l = rw (add-one i, drop-cons ls i 0) (simp (le-ltb _ _ l))
 
 -- the first level above top, the levels being counted from i
 module _ (i : ℕ) (rest : Step (Unit {0})) (later : Option ℕ) where

@@ -1,32 +1,41 @@
--- From the danger that the walk finds to what the chain shown asks.
+-- From the danger that the walk finds to what the chain shown asks, and to the chain shown beside it.
 -- Assumes nothing.
 use Prim.Native.Nat.{ℕ, ◌<◌}
-use mathlib.Core.Path.{◌≡◌, refl, sym, ap, ◌∙◌}
+use mathlib.Core.Path.{◌≡◌, refl, sym, ap, subst, ◌∙◌}
 use mathlib.Core.List.{List}
+use Rattle.std.specs.Prelude.{Option, None, Some, Result, Ok}
 use Rattle.std.proofs.Math.Nat.{suc_inj}
+use Rattle.sheet.specs.Step.{ok}
+use Rattle.sheet.specs.declared.Refusal.{Refusal}
 use Rattle.sheet.specs.declared.Table.{Table}
 use native.Mathlib.Omega.{arith}
 use denote.Bor.{Bor}
-use lib.ListN.{length, get_or}
+use lib.ListN.{length, get_or, replicate}
 use Rattle.theory.specs.Danger.{Jobs}
 use Rattle.theory.specs.Form1.{form1}
 use Rattle.theory.specs.Guards.{Paper}
 use Rattle.theory.proofs.KnownLaws.{t1_known}
 use Rattle.theory.specs.Lowest.{level}
-use Rattle.theory.specs.Planner.{Danger₁, Names₁}
+use Rattle.theory.specs.Planner.{Danger₁, Names₁, Walks₁}
 use Rattle.theory.specs.Walk as theory
 use Rattle.conflicts.specs.Laid.{Stands}
 use Rattle.conflicts.specs.SetsFound.{SetsFound}
 use Rattle.conflicts.specs.declared.sets.Sets as declared
-use Rattle.walk.specs.Answers.{named}
-use Rattle.walk.specs.ShownIn.{DangerIn}
+use Rattle.walk.specs.Answers.{named, answered}
+use Rattle.walk.specs.ShownIn.{DangerIn, ShownIn}
 use Rattle.walk.specs.declared.four.Four.{Four}
 use Rattle.walk.specs.declared.four.Indices.{Indices}
+use Rattle.planner.specs.Questions.{Answers, Walks, walk_of, NoChain}
 use Rattle.planner.specs.Stands.{SetsStand}
+use Rattle.planner.specs.declared.WalkAnswer.{WalkAnswer}
 
 -- four numbers that name a danger
 abbrev pub NamesIn : Jobs form1 → List ℕ → Four → Type 0
 NamesIn js ls f = Names₁ js ls (named f)
+
+module _ (js : Jobs form1) (ls : List ℕ) (above : Four) where
+  pub found_danger : (r : Option Four) (f : Four) → r ≡ Some f → Walks₁ js ls (named above) (answered r) → NamesIn js ls f
+  found_danger r f e w = (rw e at w).named
 
 module _ (js : Jobs form1) (ls : List ℕ) (f : Four) (n : NamesIn js ls f) where
   -- each is at least 1
@@ -74,3 +83,18 @@ danger_in_lem s ls k i d = record {
   same_level = refl;
   danger = d;
 }
+
+-- what a step answers: the end, or a danger with the chain shown
+module _ (js : Jobs form1) (ls : List ℕ) (above : Four) (a : WalkAnswer) where
+  abbrev Told : Result (Option Four) Refusal → Type 0
+  Told w = Answers (λ js. Walks ls above a js) (ok js) (walk_of w)
+
+  pub step_end : (r : Option Four) → r ≡ None → Walks₁ js ls (named above) (answered r) → a.walk ≡ Ok None → NoChain a → Told a.walk
+  step_end r e w f none = subst Told (sym f) (rw e at w, none)
+
+  pub step_found :
+      (r : Option Four) (f : Four) → r ≡ Some f → Walks₁ js ls (named above) (answered r) → a.walk ≡ Ok (Some f)
+      → (i : Indices) → named f ≡ theory.from_one_lem i.t1 i.b1 i.t2 i.tm
+      → ShownIn js (level ls) i.t1 i.b1 i.t2 i.tm (replicate 32 0) a.chain (replicate 64 0) a.pairs a.length
+      → Told a.walk
+  step_found r f e w g i n h = subst Told (sym g) (rw e at w, record { t1 = i.t1; b1 = i.b1; t2 = i.t2; tm = i.tm; numbers = n; shown = h })

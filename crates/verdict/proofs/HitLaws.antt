@@ -41,7 +41,7 @@ pub is_out : (m k : ℕ) (b : Bool) → b ≡ eqb (bit m k) 1 → b ≡ false �
 is_out m k b e t = elim (digit _ (bit_lt m k)) [ inl z ↦ z | inr o ↦ absurd (eqb-false _ _ (sym e ∙ t) o) ]
 
 -- a set with a job added
-in_with : (m r i : ℕ) → ((k : ℕ) → bit r k ≡ max (bit m k) (one (eqb i k))) → (j : ℕ) → (bit r j ≡ 1) ↔ ((i ≡ j) ⊎ (bit m j ≡ 1))
+pub in_with : (m r i : ℕ) → ((k : ℕ) → bit r k ≡ max (bit m k) (one (eqb i k))) → (j : ℕ) → (bit r j ≡ 1) ↔ ((i ≡ j) ⊎ (bit m j ≡ 1))
 in_with m r i e j =
     let iff = in_union (bit m j) (one (eqb i j)) (bit r j) (bit_lt m j) (one_lt (eqb i j)) (e j) in
     (λ f. elim (iff.0 f) [ inl o ↦ inr o | inr o ↦ inl (single_is i j o) ], λ q. elim q [ inl s ↦ iff.1 (inr (subst (λ (x : ℕ). one (eqb i x) ≡ 1) s (single_has i))) | inr o ↦ iff.1 (inl o) ])

@@ -25,11 +25,18 @@ use Rattle.verdict.specs.Verdict.{IsSplit, RobustFor}
 abbrev pub within : ℕ → List ℕ → ℕ → ℕ
 within jobs levels k = cond (ltb k jobs) (level levels k) 0
 
-within_at : (jobs : ℕ) (levels : List ℕ) (k : ℕ) → k < jobs → within jobs levels k ≡ level levels k
+pub within_at : (jobs : ℕ) (levels : List ℕ) (k : ℕ) → k < jobs → within jobs levels k ≡ level levels k
 within_at jobs levels k h = ap (λ (b : Bool). cond b (level levels k) 0) (lt-ltb k jobs h)
 
 within_beyond : (jobs : ℕ) (levels : List ℕ) (k : ℕ) → jobs ≤ k → within jobs levels k ≡ 0
 within_beyond jobs levels k h = ap (λ (b : Bool). cond b (level levels k) 0) (le-ltb k jobs h)
+
+-- what is watched with a job of the sheet at its level
+pub watch_within : (jobs : ℕ) (levels : List ℕ) (ssi watch t1 : ℕ) → t1 < jobs → Has ssi (ssi? jobs levels) → ((k : ℕ) → bit watch k ≡ min (one (leb 2 (level levels t1))) (bit ssi k))
+    → Has watch (watch? (within jobs levels) t1)
+watch_within jobs levels ssi watch t1 h hs e =
+    watch_has (within jobs levels) t1 jobs levels ssi watch (within_at jobs levels) (λ k q. omega (arith, within_beyond jobs levels k q)) hs
+    (λ k. e k ∙ ap (λ (l : ℕ). min (one (leb 2 l)) (bit ssi k)) (sym (within_at jobs levels t1 h)))
 
 -- What is shown of a job under all levels that give it the one read from the front of the list, and with what is watched then,
 -- holds under the levels of the list.
@@ -37,15 +44,14 @@ module _ (P : (ℕ → ℕ) → Type 0) (jobs : ℕ) (levels : List ℕ) (few : 
   known : t1 < jobs
   known = omega (arith, read, length-take-le jobs levels few)
 
-  same : within jobs levels t1 ≡ get_or (take jobs levels) t1 0
-  same = within_at jobs levels t1 known ∙ sym (get_or-take jobs levels t1 0 known)
+  same : level levels t1 ≡ get_or (take jobs levels) t1 0
+  same = sym (get_or-take jobs levels t1 0 known)
 
   pub under_list : Has ssi (ssi? jobs levels) → ((k : ℕ) → bit watch k ≡ min (one (leb 2 (get_or (take jobs levels) t1 0))) (bit ssi k))
       → ((lv : ℕ → ℕ) → lv t1 ≡ get_or (take jobs levels) t1 0 → Has watch (watch? lv t1) → P lv) → P (within jobs levels)
   under_list hs e f =
-      f (within jobs levels) same
-      (watch_has (within jobs levels) t1 jobs levels ssi watch (within_at jobs levels) (λ k q. omega (arith, within_beyond jobs levels k q)) hs
-      (λ k. e k ∙ ap (λ (l : ℕ). min (one (leb 2 l)) (bit ssi k)) (sym same)))
+      f (within jobs levels) (within_at jobs levels t1 known ∙ same)
+      (watch_within jobs levels ssi watch t1 known hs (λ k. e k ∙ ap (λ (l : ℕ). min (one (leb 2 l)) (bit ssi k)) (sym same)))
 
 module _ (r : Rule) (js : Jobs r) (levels : List ℕ) where
   same_within : Robust r (Paper r) js (within (length js) levels) ↔ RobustFor r js levels

@@ -42,23 +42,23 @@ pub has_less : (a b m : ℕ) (p q : ℕ → Bool) → Has a p → Has b q → ((
 has_less a b m p q ha hb e k = e k ∙ ap₂ ◌-◌ (ha k) (hb k) ∙ sym (one_less (p k) (q k))
 
 -- a path joins some first job with some last one, and not both are watched (condition 6)
-abbrev Apart : List ℕ → ℕ → ℕ → ℕ → ℕ → Type 0
+abbrev pub Apart : List ℕ → ℕ → ℕ → ℕ → ℕ → Type 0
 Apart clash_of shut watch first last = (m : Meets clash_of shut first last) × ¬ ((bit watch m.0 ≡ 1) × (bit watch m.1 ≡ 1))
 
 module _ (clash_of : List ℕ) (shut watch first last : ℕ) where
   -- the first is not watched
-  free_apart : (free : ℕ) → ((k : ℕ) → bit free k ≡ bit first k - bit watch k) → Meets clash_of shut free last → Apart clash_of shut watch first last
+  pub free_apart : (free : ℕ) → ((k : ℕ) → bit free k ≡ bit first k - bit watch k) → Meets clash_of shut free last → Apart clash_of shut watch first last
   free_apart free e m = ((m.0, m.1, m.2, omega (arith, e m.0, m.3, bit_lt first m.0), m.4, m.5), λ w. omega (arith, e m.0, m.3, bit_lt first m.0, w.0))
 
   -- or it is and the last is not
   module _ (held rest : ℕ) (in_held : (k : ℕ) → bit held k ≡ min (bit first k) (bit watch k)) (in_rest : (k : ℕ) → bit rest k ≡ bit last k - bit watch k) where
-    held_apart : Meets clash_of shut held rest → Apart clash_of shut watch first last
+    pub held_apart : Meets clash_of shut held rest → Apart clash_of shut watch first last
     held_apart m = (
       (m.0, m.1, m.2, omega (arith, in_held m.0, m.3, bit_lt first m.0), omega (arith, in_rest m.1, m.4, bit_lt last m.1), m.5),
       λ w. omega (arith, in_rest m.1, m.4, bit_lt last m.1, w.1),
     )
 
-    apart_cases : (free : ℕ) → ((k : ℕ) → bit free k ≡ bit first k - bit watch k) → Apart clash_of shut watch first last → Meets clash_of shut free last ⊎ Meets clash_of shut held rest
+    pub apart_cases : (free : ℕ) → ((k : ℕ) → bit free k ≡ bit first k - bit watch k) → Apart clash_of shut watch first last → Meets clash_of shut free last ⊎ Meets clash_of shut held rest
     apart_cases free in_free q = cases q.0 q.1 (digit _ (bit_lt watch q.0.0)) (digit _ (bit_lt watch q.0.1))
       where
         cases : (m : Meets clash_of shut first last) → ¬ ((bit watch m.0 ≡ 1) × (bit watch m.1 ≡ 1)) → (bit watch m.0 ≡ 0) ⊎ (bit watch m.0 ≡ 1)
@@ -70,7 +70,7 @@ module _ (clash_of : List ℕ) (shut watch first last : ℕ) where
 module _ (r : Rule) (js : Jobs r) {kind writers ww_of rw_of wr_of clash_of : List ℕ} (s : Sets r js kind writers ww_of rw_of wr_of clash_of)
     (t1 shut : ℕ) (h : Has shut (shut? r js t1)) (lv : ℕ → ℕ) where
   -- at RC nothing is watched, and some operation has a first and a last job that a path joins
-  rc_means : lv t1 ≡ 0 → (first last : List ℕ) → Splits r js lv t1 first last
+  pub rc_means : lv t1 ≡ 0 → (first last : List ℕ) → Splits r js lv t1 first last
       → IsSplit r js lv t1 ↔ ((b : ℕ) × (b < 16) × Meets clash_of shut (get_or first b 0) (get_or last b 0))
   rc_means e first last w = (
     λ d.
@@ -91,7 +91,29 @@ module _ (r : Rule) (js : Jobs r) {kind writers ww_of rw_of wr_of clash_of : Lis
       lasts : (b : ℕ) → b < 16 → (k : ℕ) → (bit (get_or last b 0) k ≡ 1) ↔ T (last? r js lv t1 b k)
       lasts b hb = has_in (get_or last b 0) (last? r js lv t1 b) (w.lasts b hb)
 
-  -- above RC, by the sets of t1 alone: a first and a last job that a path joins are not both watched (condition 6)
+  -- above RC a first and a last job that a path joins are not both watched (condition 6)
+  pub above_means : 1 ≤ lv t1 → (watch first last : ℕ) → Has watch (watch? lv t1) → Has first (first_any? r js lv t1) → Has last (last_any? r js lv t1)
+      → IsSplit r js lv t1 ↔ Apart clash_of shut watch first last
+  above_means up watch first last hw hf hl = (
+    λ d.
+        let p = (danger_any_joined r js s t1 shut h lv up d.1 d.2).0 (d.0, d.3) in
+        ((d.1, d.2, p.3.0, (firsts d.1).1 p.0, (lasts d.2).1 p.1, p.3.1), λ u. p.2 ((watches d.1).0 u.0, (watches d.2).0 u.1)),
+    λ m.
+        let q = m.0 in
+        let d = (danger_any_joined r js s t1 shut h lv up q.0 q.1).1 ((firsts q.0).0 q.3, (lasts q.1).0 q.4, λ u. m.1 ((watches q.0).1 u.0, (watches q.1).1 u.1), (q.2, q.5)) in
+        (d.0, q.0, q.1, d.1),
+  )
+    where
+      firsts : (k : ℕ) → (bit first k ≡ 1) ↔ T (first_any? r js lv t1 k)
+      firsts = has_in first (first_any? r js lv t1) hf
+
+      lasts : (k : ℕ) → (bit last k ≡ 1) ↔ T (last_any? r js lv t1 k)
+      lasts = has_in last (last_any? r js lv t1) hl
+
+      watches : (k : ℕ) → (bit watch k ≡ 1) ↔ T (watch? lv t1 k)
+      watches = has_in watch (watch? lv t1) hw
+
+  -- the same by the sets of t1 alone
   module _ (up : 1 ≤ lv t1) (small : t1 < 32) (watch away first home last free : ℕ) (hw : Has watch (watch? lv t1))
       (away_is : (k : ℕ) → bit away k ≡ bit (get_or rw_of t1 0) k - bit (get_or ww_of t1 0) k)
       (first_is : (k : ℕ) → bit first k ≡ bit away k - min (bit watch k) (bit (get_or wr_of t1 0) k))
@@ -99,16 +121,10 @@ module _ (r : Rule) (js : Jobs r) {kind writers ww_of rw_of wr_of clash_of : Lis
       (last_is : (k : ℕ) → bit last k ≡ bit home k - min (bit watch k) (bit (get_or rw_of t1 0) k))
       (free_is : (k : ℕ) → bit free k ≡ bit first k - bit watch k)
     where
-      above_means : IsSplit r js lv t1 ↔ Apart clash_of shut watch first last
-      above_means = (
-        λ d.
-            let p = (danger_any_joined r js s t1 shut h lv up d.1 d.2).0 (d.0, d.3) in
-            ((d.1, d.2, p.3.0, (firsts d.1).1 p.0, (lasts d.2).1 p.1, p.3.1), λ u. p.2 ((watches d.1).0 u.0, (watches d.2).0 u.1)),
-        λ m.
-            let q = m.0 in
-            let d = (danger_any_joined r js s t1 shut h lv up q.0 q.1).1 ((firsts q.0).0 q.3, (lasts q.1).0 q.4, λ u. m.1 ((watches q.0).1 u.0, (watches q.1).1 u.1), (q.2, q.5)) in
-            (d.0, q.0, q.1, d.1),
-      )
+      split_apart : IsSplit r js lv t1 ↔ Apart clash_of shut watch first last
+      split_apart = above_means up watch first last hw
+          (has_left _ _ _ _ _ _ _ _ _ _ out closed hw back away_is first_is)
+          (has_left _ _ _ _ _ _ _ _ _ _ back closed hw out home_is last_is)
         where
           closed : Has (get_or ww_of t1 0) (job_with r js r.ww t1)
           closed = s.job_ww t1 small
@@ -119,24 +135,15 @@ module _ (r : Rule) (js : Jobs r) {kind writers ww_of rw_of wr_of clash_of : Lis
           back : Has (get_or wr_of t1 0) (job_with r js (wr r) t1)
           back = s.job_wr t1 small
 
-          firsts : (k : ℕ) → (bit first k ≡ 1) ↔ T (first_any? r js lv t1 k)
-          firsts = has_in first (first_any? r js lv t1) (has_left _ _ _ _ _ _ _ _ _ _ out closed hw back away_is first_is)
-
-          lasts : (k : ℕ) → (bit last k ≡ 1) ↔ T (last_any? r js lv t1 k)
-          lasts = has_in last (last_any? r js lv t1) (has_left _ _ _ _ _ _ _ _ _ _ back closed hw out home_is last_is)
-
-          watches : (k : ℕ) → (bit watch k ≡ 1) ↔ T (watch? lv t1 k)
-          watches = has_in watch (watch? lv t1) hw
-
       -- two tests tell: the first job is not watched, or it is and the last is not
       pub tells_free : (b : Bool) → b ≡ true → Meeting clash_of shut free last b → Tells (IsSplit r js lv t1) b
-      tells_free b e m = record { yes = λ _. above_means.1 (free_apart clash_of shut watch first last free free_is (m.met e)); no = λ f. absurd (true≢false (sym e ∙ f)) }
+      tells_free b e m = record { yes = λ _. split_apart.1 (free_apart clash_of shut watch first last free free_is (m.met e)); no = λ f. absurd (true≢false (sym e ∙ f)) }
 
       pub tells_held : (held rest : ℕ) (b : Bool) → ((k : ℕ) → bit held k ≡ min (bit first k) (bit watch k)) → ((k : ℕ) → bit rest k ≡ bit last k - bit watch k)
           → ¬ Meets clash_of shut free last → Meeting clash_of shut held rest b → Tells (IsSplit r js lv t1) b
       tells_held held rest b held_is rest_is none m = record {
-        yes = λ e. above_means.1 (held_apart clash_of shut watch first last held rest held_is rest_is (m.met e));
-        no = λ e d. elim (apart_cases clash_of shut watch first last held rest held_is rest_is free free_is (above_means.0 d)) [
+        yes = λ e. split_apart.1 (held_apart clash_of shut watch first last held rest held_is rest_is (m.met e));
+        no = λ e d. elim (apart_cases clash_of shut watch first last held rest held_is rest_is free free_is (split_apart.0 d)) [
           | inl q ↦ none q
           | inr q ↦ m.apart e q
         ];

@@ -8,7 +8,7 @@ use lib.ListN.{length, drop, take, length-append, length-map}
 use lib.Seq.{take-append_seam}
 use Rattle.theory.specs.Guards.{Paper}
 use Rattle.theory.specs.Form1.{form1}
-use Rattle.theory.proofs.KnownLaws.{t2_known, tm_known, t2_apart, tm_apart}
+use Rattle.theory.proofs.KnownLaws.{t1_known, t2_known, tm_known, t2_apart, tm_apart}
 use Rattle.theory.proofs.ShownLaws.{one_chain}
 use Rattle.theory.proofs.PairLaws.{shown}
 use Rattle.chain.specs.Paths.{Both, Written, Shows}
@@ -29,6 +29,9 @@ module _ {kind object clash : List ℕ} {level t1 b1 t2 tm : ℕ} (d : DangerIn 
 
   last_apart : ¬ (t1 ≡ tm)
   last_apart = tm_apart form1 (Paper form1) d.js d.danger
+
+  pub split_small : t1 < 32
+  split_small = omega (arith, d.laid.few, t1_known form1 (Paper form1) d.js d.danger)
 
   pub askable : (t2 < 32) × (tm < 32) × Both clash
   askable = (omega (arith, d.laid.few, first_in), omega (arith, d.laid.few, last_in), edges_back form1 d.js d.sets)
