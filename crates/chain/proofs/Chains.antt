@@ -49,6 +49,9 @@ module _ (clash layers : List ℕ) where
         jobs = rw (named, more, parts) (ap (λ (l : List ℕ). suc from ∷ l) b.jobs);
       }
 
+  pub built_end : (chain rest : List ℕ) (from left place job : ℕ) → left ≡ 0 → chain ≡ place ∷ rest → job ≡ suc from → Built clash layers chain (job ∷ rest) from left
+  built_end chain rest from left place job e parts named = record { chain = []; steps = rw e tt; jobs = rw (named, e, parts) refl }
+
   -- ---- down the layers of the goal
   module _ (shut goal : ℕ) where
     abbrev Stored : ℕ → Type 0
