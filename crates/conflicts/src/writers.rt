@@ -9,12 +9,10 @@ use sheet::Table;
 fn place(object: u16, from: usize) -> Option<usize>
     ensures { MatchOption result ((s : ℕ) → s < 512 → ¬ object ≡ from + s) (λ s. (s < 512) × (object ≡ from + s)) }
 {
-    let x = usize::from(object);
-    if from <= x && x - from < 512 {
-        Some(x - from)
-    } else {
-        None
-    }
+    // No object reaches 65536, so the cut of `from` changes no answer. An object below it then wraps round to far past the span: one compare
+    // tells both ends.
+    let s = usize::from(object).wrapping_sub(from.min(65536));
+    if s < 512 { Some(s) } else { None }
 }
 
 // Gives `seen` the jobs that write each object of the span from `from` on, among the first `end` operations.
