@@ -45,11 +45,7 @@ pub put_line_lem :
     → Put (a ++ b ++ c ++ d) out used out₄ used₄
 put_line_lem a b c d p q r s = put_append (a ++ b ++ c) d (put_append (a ++ b) c (put_append a b p q) r) s
 
--- a text keeps its buffer where nothing is done, ..
-pub same_begun : (t : Text) → SameBuffer t t
-same_begun t = record { same_buffer = refl; same_length = refl }
-
--- .. where bytes are put, ..
+-- a text keeps its buffer where bytes are put, ..
 pub puts_same : {t u : Text} (bytes : List ℕ) → Puts t bytes u → SameBuffer t u
 puts_same bytes p = record { same_buffer = p.same_buffer; same_length = put_length bytes p.put }
 
