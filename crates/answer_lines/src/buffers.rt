@@ -1,7 +1,8 @@
 // The questions that come with an answer buffer, for the lowest levels and for the sheet's own: kinds 4 and 5 of docs/REPLIES.md.
+ghost use Rattle.text.specs.Text.{SameBuffer};
+
 use crate::put_refusal;
 use sheet::Refusal;
-use std::fmt::Write;
 use text::Text;
 
 // The word with the number that the question answers, or the refusal, and then the whole buffer.
@@ -13,10 +14,13 @@ pub fn put_answer<Q: FnOnce(&[u8], &mut [u8]) -> Result<u32, Refusal>>(
     out: &mut Text<'_>,
 )
     requires { Q.IsAlwaysCallable question }
+    ensures { SameBuffer out.old out.new }
 {
     match question(sheet, buffer) {
         Ok(n) => {
-            let _ = write!(out, "{word} {n}");
+            out.put_word(word.as_bytes());
+            out.put(b' ');
+            out.put_number(u64::from(n));
         }
         Err(r) => put_refusal(r, out),
     }

@@ -1,5 +1,4 @@
-// The lines that tell the answers, without their line feeds (docs/REPLIES.md, "The lines"). A text leaves out what has no room, so no
-// `write!` to one fails.
+// The lines that tell the answers, without their line feeds (docs/REPLIES.md, "The lines").
 #![tactic(auto)]
 
 pub mod buffers;
@@ -7,9 +6,13 @@ pub mod judging;
 pub mod reading;
 pub mod walking;
 
+ghost use Rattle.text.specs.Text.{SameBuffer};
+
 use sheet::Refusal;
 use text::Text;
 
-fn put_refusal(r: Refusal, out: &mut Text<'_>) {
+fn put_refusal(r: Refusal, out: &mut Text<'_>)
+    ensures { SameBuffer out.old out.new }
+{
     out.put_refusal(r.reason.into(), r.place);
 }

@@ -11,7 +11,7 @@ use lib.Seq.{drop-cons}
 use Rattle.text.specs.Text.{Puts, decimal}
 use Rattle.text.specs.declared.Text.{Text}
 use Rattle.text.specs.Lines.{word, row}
-use Rattle.text.proofs.PutLaws.{puts_append}
+use Rattle.text.proofs.PutLaws.{put_length, puts_append}
 
 -- nothing follows from a zero on, or behind the last number, ..
 row_none : (ns : List ℕ) (i : ℕ) → get_or ns i 0 ≡ 0 → row (drop i ns) ≡ []
@@ -40,6 +40,9 @@ row_begun ns t = record {
 }
 
 module _ {ns : List ℕ} {i : ℕ} {t u : Text} (b : Begun ns i t u) where
+  pub begun_length : length u.bytes.now ≡ length t.bytes.now
+  begun_length = put_length b.done b.puts.put
+
   pub row_put : get_or ns i 0 ≡ 0 → Puts t (row ns) u
   row_put e = rw (b.whole, row_none ns i e, append-nil) b.puts
 

@@ -8,7 +8,7 @@ use native.Mathlib.Numerals.{add-one}
 use native.Mathlib.Omega.{arith}
 use lib.ListN.{length, take, set, get_or, length-append}
 use lib.Seq.{sets, set_out, length-sets, take-suc}
-use Rattle.text.specs.Text.{Put, Puts}
+use Rattle.text.specs.Text.{Put, Puts, SameBuffer}
 use Rattle.text.specs.declared.Text.{Text}
 
 -- what has no room changes nothing
@@ -21,11 +21,11 @@ sets_append l i [] b = ap (λ (n : ℕ). sets l n b) (omega arith)
 sets_append l i (x ∷ a) b = sets_append (set l i x) (suc i) a b ∙ ap (λ (n : ℕ). sets (sets (set l i x) (suc i) a) n b) (omega arith)
 
 module _ {out : List ℕ} {used : ℕ} {out₁ : List ℕ} {used₁ : ℕ} where
-  put_length : (a : List ℕ) → Put a out used out₁ used₁ → length out₁ ≡ length out
+  pub put_length : (a : List ℕ) → Put a out used out₁ used₁ → length out₁ ≡ length out
   put_length a p = ap length p.stored ∙ length-sets out used a
 
   module _ (a b : List ℕ) {out₂ : List ℕ} {used₂ : ℕ} where
-    put_append : Put a out used out₁ used₁ → Put b out₁ used₁ out₂ used₂ → Put (a ++ b) out used out₂ used₂
+    pub put_append : Put a out used out₁ used₁ → Put b out₁ used₁ out₂ used₂ → Put (a ++ b) out used out₂ used₂
     put_append p q = record {
       stored = q.stored ∙ rw p.stored (here (dec_le (used + length a) (length out))) ∙ sym (sets_append out used a b);
       counted = omega (arith, p.counted, q.counted, put_length a p, length-append a b);
@@ -45,7 +45,15 @@ pub put_line_lem :
     → Put (a ++ b ++ c ++ d) out used out₄ used₄
 put_line_lem a b c d p q r s = put_append (a ++ b ++ c) d (put_append (a ++ b) c (put_append a b p q) r) s
 
+-- a text keeps its buffer where bytes are put, ..
+pub puts_same : {t u : Text} (bytes : List ℕ) → Puts t bytes u → SameBuffer t u
+puts_same bytes p = record { same_buffer = p.same_buffer; same_length = put_length bytes p.put }
+
 module _ {t u v : Text} where
+  -- .. and where one thing is done after another
+  pub same_trans : SameBuffer t u → SameBuffer u v → SameBuffer t v
+  same_trans p q = record { same_buffer = q.same_buffer ∙ p.same_buffer; same_length = q.same_length ∙ p.same_length }
+
   pub puts_append : (a b : List ℕ) → Puts t a u → Puts u b v → Puts t (a ++ b) v
   puts_append a b p q = record { put = put_append a b p.put q.put; same_buffer = q.same_buffer ∙ p.same_buffer }
 

@@ -13,6 +13,11 @@ pub record Puts (t : Text) (bytes : List ℕ) (u : Text) : Type 0 where
   pub put : Put bytes t.bytes.now t.used u.bytes.now u.used
   pub same_buffer : u.bytes.ghost_name ≡ t.bytes.ghost_name
 
+-- a text still has the buffer that was lent to it, at its length
+pub record SameBuffer (t u : Text) : Type 0 where
+  pub same_buffer : u.bytes.ghost_name ≡ t.bytes.ghost_name
+  pub same_length : length u.bytes.now ≡ length t.bytes.now
+
 -- the decimal digits of a number that has at most k of them, without leading zeros
 unfoldable pub digits : ℕ → ℕ → List ℕ
 digits zero n = []

@@ -44,7 +44,7 @@ impl Text<'_> {
         }
     }
 
-    // A number in decimal, by hand: no clause of `write!` tells what it prints, or that it can't fail.
+    // A number in decimal, by hand: a `write!` tells what it printed only where it succeeds, and no clause says that it does.
     pub fn put_number(&mut self, n: u64)
         ensures { Puts self.old (decimal n) self.new }
     {

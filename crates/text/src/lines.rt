@@ -1,4 +1,5 @@
-// What the programs print alike of a refusal and of a danger, put by hand: the promise is `Puts`, and no clause tells what a `write!` prints.
+// What the programs print alike of a refusal and of a danger, put by hand: the promise is `Puts` in every case, that of a `write!` only
+// where it succeeds.
 ghost use Rattle.std.specs.Prelude.{◌≡◌};
 ghost use Rattle.text.specs.Text.{Puts};
 ghost use Rattle.text.specs.Lines.{row, refusal_line, danger_line};
