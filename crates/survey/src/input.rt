@@ -7,6 +7,7 @@ use std::io;
 use std::io::Read;
 
 // Reads until `bytes` is full or the input ends, and returns how many bytes stand at its start. A read that fails ends it with its error.
+// It stands in `replies` too, since a library that reads would load modules of `os`, and rest on what they declare.
 pub fn read_full<R: Read>(reader: &mut R, bytes: &mut [u8]) -> io::Result<usize>
     ensures bound { ReadsAtMost result bytes.new }
     ensures bytes { IfOk result (λ n. Consumes (R.remaining reader.old) (R.remaining reader.new) (take n bytes.new)) }
