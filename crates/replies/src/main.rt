@@ -2,12 +2,14 @@
 #![tactic(auto)]
 
 mod fault;
+mod input;
 mod question;
 
 ghost use Rattle.std.specs.Prelude.{◌≤◌, IfOk};
 
 use fault::Fault;
-use std::fmt::Write;
+use input::Ahead;
+use question::PART;
 use std::io;
 use std::io::Read;
 use text::Text;
@@ -20,8 +22,14 @@ struct Stop {
 }
 
 // The next question, and its line, which goes out in time.
-fn next(rt: &impl Print, input: &mut impl Read, out: &mut Text<'_>) -> Result<(), Fault> {
-    question::answer(input, out)?;
+fn next<R: Read>(
+    rt: &impl Print,
+    input: &mut Ahead<R>,
+    sheet: &mut [u8; PART],
+    list: &mut [u8; PART],
+    out: &mut Text<'_>,
+) -> Result<(), Fault> {
+    question::answer(input, sheet, list, out)?;
     if out.is_due() {
         out.flush(rt)?;
     }
@@ -41,7 +49,7 @@ fn count(input: &mut impl Read) -> Result<u32, Fault>
 
 // Nothing stands behind the last question.
 fn nothing_left(input: &mut impl Read) -> Result<(), Fault> {
-    match question::bytes::<1>(input) {
+    match question::bytes::<1, _>(input) {
         Ok(_) => Err(Fault::Malformed),
         Err(Fault::Cut) => Ok(()),
         Err(fault) => Err(fault),
@@ -49,10 +57,12 @@ fn nothing_left(input: &mut impl Read) -> Result<(), Fault> {
 }
 
 // The whole stream: the number of questions, the questions, and nothing behind them.
-fn stream(rt: &impl Print, input: &mut impl Read, out: &mut Text<'_>) -> Result<(), Stop> {
+fn stream<R: Read>(rt: &impl Print, input: &mut Ahead<R>, out: &mut Text<'_>) -> Result<(), Stop> {
+    let mut sheet = [0; PART];
+    let mut list = [0; PART];
     let n = count(input).map_err(|fault| Stop { fault, question: 0 })?;
     for question in 1..=n {
-        next(rt, input, out).map_err(|fault| Stop { fault, question })?;
+        next(rt, input, &mut sheet, &mut list, out).map_err(|fault| Stop { fault, question })?;
     }
     let question = n + 1;
     nothing_left(input).map_err(|fault| Stop { fault, question })
@@ -64,19 +74,21 @@ fn main(rt: HostRuntime) -> io::Result<()> {
         bytes: &mut bytes,
         used: 0,
     };
-    // Nothing is read ahead: that would want a buffer on the heap, or one with its own ends to keep.
-    let mut input = rt.stdin();
+    let mut input = Ahead::new(rt.stdin());
     if let Err(Stop { fault, question }) = stream(&rt, &mut input, &mut out) {
-        let word = match fault {
-            Fault::Cut => "cut",
-            Fault::Malformed => "malformed",
+        let word: &[u8] = match fault {
+            Fault::Cut => b"cut",
+            Fault::Malformed => b"malformed",
             Fault::Io(e) => {
                 // The questions that were answered have their lines.
                 out.flush(&rt)?;
                 return Err(e);
             }
         };
-        let _ = writeln!(out, "{word} at question {question}");
+        out.put_word(word);
+        out.put_word(b" at question ");
+        out.put_number(u64::from(question));
+        out.put(b'\n');
     }
     out.flush(&rt)
 }

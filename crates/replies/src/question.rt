@@ -1,13 +1,15 @@
 // One question of the stream: its kind, the lengths of its parts, the parts, and its line (docs/REPLIES.md).
-ghost use Rattle.std.specs.Prelude.{◌≤◌, IfOk};
+ghost use Rattle.std.specs.Prelude.{◌≤◌, IfOk, OnOk};
+ghost use Rattle.std.specs.Io.KnownBytes.{Consumes};
 
 use crate::fault::Fault;
+use crate::input::{Ahead, read_full};
 use answer_lines::{buffers, judging, reading, walking};
 use std::io::Read;
 use text::Text;
 
 // The most bytes of a part.
-const PART: usize = 4096;
+pub const PART: usize = 4096;
 
 #[derive(Clone, Copy, PartialEq, Eq)]
 enum Kind {
@@ -33,10 +35,23 @@ impl TryFrom<u8> for Kind {
     }
 }
 
+// Fills `part` with the next bytes of the stream, all of which are there, or the stream is cut.
+fn fill<R: Read>(input: &mut R, part: &mut [u8]) -> Result<(), Fault>
+    ensures { OnOk result (Consumes (R.remaining input.old) (R.remaining input.new) part.new) }
+{
+    let n = read_full(input, part)?;
+    if n < part.len() {
+        return Err(Fault::Cut);
+    }
+    Ok(())
+}
+
 // The next N bytes of the stream.
-pub fn bytes<const N: usize>(input: &mut impl Read) -> Result<[u8; N], Fault> {
+pub fn bytes<const N: usize, R: Read>(input: &mut R) -> Result<[u8; N], Fault>
+    ensures { IfOk result (λ b. Consumes (R.remaining input.old) (R.remaining input.new) b) }
+{
     let mut bytes = [0; N];
-    input.read_exact(&mut bytes)?;
+    fill(input, &mut bytes)?;
     Ok(bytes)
 }
 
@@ -70,17 +85,20 @@ impl Lengths {
     }
 }
 
-// Reads the next question and puts its line.
-pub fn answer(input: &mut impl Read, out: &mut Text<'_>) -> Result<(), Fault> {
-    let [number] = bytes::<1>(input)?;
+// Reads the next question, its parts into the room lent for them, and puts its line.
+pub fn answer<R: Read>(
+    input: &mut Ahead<R>,
+    sheet: &mut [u8; PART],
+    list: &mut [u8; PART],
+    out: &mut Text<'_>,
+) -> Result<(), Fault> {
+    let [number] = bytes::<1, _>(input)?;
     let kind = Kind::try_from(number)?;
     let lengths = Lengths::read(input, kind)?;
-    let mut sheet = [0; PART];
     let sheet = &mut sheet[..lengths.sheet];
-    input.read_exact(sheet)?;
-    let mut list = [0; PART];
+    fill(input, sheet)?;
     let list = &mut list[..lengths.list];
-    input.read_exact(list)?;
+    fill(input, list)?;
     match kind {
         Kind::Read => reading::put_answer(sheet, out),
         Kind::Judge => judging::put_answer(sheet, list, out),

@@ -1,1 +1,2 @@
 pub mod RiseLaws
+pub mod PartLaws

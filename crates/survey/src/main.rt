@@ -1,6 +1,7 @@
 // Prints what document 01, "The program `survey`", asks of the sheet on standard input.
 #![tactic(auto)]
 
+mod input;
 mod lines;
 
 ghost use Rattle.std.specs.Prelude.{◌≤◌, length};
@@ -9,11 +10,11 @@ ghost use Rattle.planner.specs.Stands.{SetsStand};
 ghost use Rattle.survey.specs.Bytes.{Bytes};
 
 use conflicts::sets::{Sets, find};
+use input::read_full;
 use lines::{put_count, put_head, put_levels};
 use planner::steps::next_of;
 use sheet::Table;
 use std::io;
-use std::io::{Cursor, Read};
 use text::Text;
 use verdict::lowest::find_lowest;
 use walk::four::Four;
@@ -79,10 +80,9 @@ fn main(rt: HostRuntime) -> io::Result<()> {
         bytes: &mut bytes,
         used: 0,
     };
-    // What stands behind so many bytes is not read. No clause says that a cursor's position lies within its array.
-    let mut sheet = Cursor::new([0; 4096]);
-    io::copy(&mut rt.stdin().take(4096), &mut sheet)?;
-    let length = sheet.position().min(4096) as usize;
-    survey(&rt, &sheet.get_ref()[..length], &mut out)?;
+    // What stands behind so many bytes is not read.
+    let mut sheet = [0; 4096];
+    let length = read_full(&mut rt.stdin(), &mut sheet)?;
+    survey(&rt, &sheet[..length], &mut out)?;
     out.flush(&rt)
 }

@@ -1,0 +1,16 @@
+-- What stands at the start of the bytes is what the reader gave.
+use Rattle.std.proofs.Common.{length, take, ◌-◌, ◌≡◌, ◌≤◌, ◌<◌, ◌^◌}
+use Rattle.std.specs.Io.KnownBytes.{Consumes}
+use Rattle.replies.proofs.input.read_full.Given as goal
+
+abbrev pub invariant-loop-done : goal.invariant-loop-done
+invariant-loop-done g l =
+    record {
+      same_length : length l.bytes ≡ length l.initial.bytes;
+      in_bounds : l.done ≤ length l.bytes;
+      fits : length l.bytes < 2 ^ 64;
+      given : Consumes (g.R.Read.remaining l.initial.reader) (g.R.Read.remaining l.reader) (take l.done l.bytes);
+    }
+
+abbrev pub decreases-loop-done : goal.decreases-loop-done
+decreases-loop-done g l = length l.initial.bytes - l.done
