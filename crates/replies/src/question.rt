@@ -1,6 +1,7 @@
 // One question of the stream: its kind, the lengths of its parts, the parts, and its line (docs/REPLIES.md).
 ghost use Rattle.std.specs.Prelude.{◌≤◌, IfOk, OnOk};
 ghost use Rattle.std.specs.Io.KnownBytes.{Consumes};
+ghost use Rattle.text.specs.Text.{SameBuffer};
 
 use crate::fault::Fault;
 use crate::input::{Ahead, read_full};
@@ -91,7 +92,9 @@ pub fn answer<R: Read>(
     sheet: &mut [u8; PART],
     list: &mut [u8; PART],
     out: &mut Text<'_>,
-) -> Result<(), Fault> {
+) -> Result<(), Fault>
+    ensures { SameBuffer out.old out.new }
+{
     let [number] = bytes::<1, _>(input)?;
     let kind = Kind::try_from(number)?;
     let lengths = Lengths::read(input, kind)?;
